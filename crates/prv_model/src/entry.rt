@@ -1,0 +1,44 @@
+use crate::input::Input;
+use crate::term::Term;
+use sqlite_items::Items;
+
+/// Why nothing was decided about a region.
+#[derive(Clone, Copy, Debug, PartialEq, Eq)]
+pub enum Reason {
+    /// The solver made all the lines of its budget.
+    Lines { budget: u32 },
+    /// The log, of so many lines, would have passed the limit on its numbers.
+    Numbers { lines: u32 },
+    /// The formula would cost so many clauses, which is past the limit.
+    Clauses { count: u64 },
+    /// The terms are more than the limit on nodes.
+    Wide,
+    /// A slice has more literals than the limit.
+    Literals,
+}
+
+/// What is claimed of every input of a region.
+#[derive(Debug, Drop)]
+pub enum Kind {
+    /// Both versions end alike.
+    Same,
+    /// Both versions end differently; the sample is one of the region's inputs.
+    Different { sample: Input },
+    /// No input lies in the region.
+    Empty,
+    /// Some version passes the bound on turns.
+    Beyond,
+    /// Nothing: the region wasn't explored yet.
+    Unexplored,
+    /// Nothing, for this reason.
+    Undecided { reason: Reason },
+}
+
+/// A region with what is claimed of it: the inputs on which each of the terms is nonzero.
+#[derive(Debug, Drop)]
+pub struct Entry {
+    pub number: u32,
+    pub terms: Items<Term>,
+    pub kind: Kind,
+    pub marks: Items<u8>,
+}

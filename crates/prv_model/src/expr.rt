@@ -1,0 +1,14 @@
+use crate::op::{BinOp, UnOp};
+use sqlite_items::Boxed;
+
+/// An expression over a program's variables.
+#[derive(Debug, Drop)]
+pub enum Expr {
+    Num(i32),
+    /// A variable, by its number.
+    Var(u8),
+    Un(UnOp, Boxed<Expr>),
+    Bin(BinOp, Boxed<Expr>, Boxed<Expr>),
+    /// `a ? b : c`.
+    Pick(Boxed<Expr>, Boxed<Expr>, Boxed<Expr>),
+}

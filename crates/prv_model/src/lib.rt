@@ -1,0 +1,29 @@
+//! Programs, words and terms, and the definitions that the whole workspace cites.
+//!
+//! The types are plain data. What a program does on an input, what a term is worth and when a list of
+//! entries is legal is said in `specs/`, over lists and numbers alone.
+#![tactic(auto)]
+
+mod arithmetic;
+mod entry;
+mod expr;
+mod input;
+mod name;
+mod op;
+mod outcome;
+mod program;
+mod stmt;
+mod term;
+mod verdict;
+
+pub use arithmetic::apply;
+pub use entry::{Entry, Kind, Reason};
+pub use expr::Expr;
+pub use input::Input;
+pub use name::Name;
+pub use op::{BinOp, TermOp, UnOp};
+pub use outcome::{Ending, Outcome};
+pub use program::{Pair, Program};
+pub use stmt::Stmt;
+pub use term::Term;
+pub use verdict::Verdict;

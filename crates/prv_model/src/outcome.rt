@@ -1,0 +1,23 @@
+use sqlite_items::Items;
+
+/// How a run ends.
+#[derive(Clone, Copy, Debug, PartialEq, Eq)]
+pub enum Ending {
+    /// By `return`, or at the end of `main`.
+    Returned,
+    /// By a zero divisor that was evaluated.
+    Fault,
+    /// By an assertion whose value was 0.
+    Assert,
+    /// By a loop that wanted a turn when none was left.
+    Long,
+}
+
+/// What a run shows: the words that it put out, and how it ended.
+///
+/// Where it returned, the returned word is the last of `outs`.
+#[derive(Debug, Drop)]
+pub struct Outcome {
+    pub outs: Items<i32>,
+    pub how: Ending,
+}
