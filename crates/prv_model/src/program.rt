@@ -1,7 +1,9 @@
+ghost use Rattle.std.specs.Prelude.{◌≡◌, ◌↔◌, IsTrue};
 ghost use Rattle.std.proofs.Props.{props};
 ghost use Rattle.prv_model.specs.Programs.{IsProgram, IsPair};
 
 use crate::name::Name;
+use crate::same::same_program;
 use crate::stmt::Stmt;
 use sqlite_items::Items;
 
@@ -26,4 +28,15 @@ pub struct Pair {
     pub after: Program,
     pub turns: u32,
     pub ghost kept: { IsPair before.params after.params turns } by { Prim.hlevel props },
+}
+
+impl Pair {
+    /// Whether both are one pair: the programs with the names of their variables, and the turns.
+    pub fn same(&self, other: &Pair) -> bool
+        ensures { IsTrue result ↔ (self.now ≡ other.now) }
+    {
+        self.turns == other.turns
+            && same_program(&self.before, &other.before)
+            && same_program(&self.after, &other.after)
+    }
 }

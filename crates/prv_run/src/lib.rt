@@ -1,0 +1,8 @@
+//! Concrete runs: what a program does on an input, and what a pair does at a point.
+#![tactic(auto)]
+
+mod evaluate;
+mod execute;
+mod runs;
+
+pub use runs::run;
