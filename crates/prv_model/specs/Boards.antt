@@ -1,5 +1,5 @@
 -- When a list of entries says only what is true, of every input.
-use Rattle.std.specs.Prelude.{◌≡◌, ℕ, ◌+◌, Bool, true, List, [], ◌∷◌, length, ℤ, All, if◌then◌else◌, map}
+use Rattle.std.specs.Prelude.{◌≡◌, ◌↔◌, ℕ, ◌+◌, Bool, true, false, List, [], ◌∷◌, length, ℤ, All, map}
 use Rattle.std.specs.List.{AllByRecursion}
 use Rattle.prv_model.specs.Words.{IsWord}
 use Rattle.prv_model.specs.Terms.{holds}
@@ -16,10 +16,15 @@ pub record IsInput (n : ℕ) (x : List ℤ) : Type 0 where
   pub long : length x ≡ n
   pub words : All IsWord x
 
+-- 1 where a test passed, and 0 elsewhere
+abbrev pub one_if : Bool → ℕ
+one_if true = 1
+one_if false = 0
+
 -- in how many of the regions an input lies
 abbrev pub places : List (List Term) → List ℤ → ℕ
 places [] x = 0
-places (region ∷ rest) x = (if holds region x then 1 else 0) + places rest x
+places (region ∷ rest) x = one_if (holds region x) + places rest x
 
 -- what a kind claims of an input
 abbrev pub Claims : Pair → Kind → List ℤ → Type 0
@@ -43,3 +48,8 @@ pub record IsLegal (pair : Pair) (entries : List Entry) : Type 0 where
   pub true_claims : (x : List ℤ) → IsInput pair.before.params x → AllByRecursion (λ e. holds e.terms x ≡ true → Claims pair e.kind x) entries
   -- the sample of an entry lies in it
   pub samples : AllByRecursion (λ e. ShowsMember pair.before.params e.kind e.terms) entries
+
+-- the first entry of a list has the number 1, and holds this input of n words and no other
+abbrev pub FirstHoldsOnly : ℕ → List Entry → List ℤ → Type 0
+FirstHoldsOnly n [] x = ⊥
+FirstHoldsOnly n (first ∷ rest) x = (first.number ≡ 1) × ((y : List ℤ) → IsInput n y → (holds first.terms y ≡ true) ↔ (y ≡ x))

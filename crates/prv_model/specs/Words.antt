@@ -1,6 +1,7 @@
 -- Words are the integers from -2147483648 to 2147483647. This says what each operator gives.
 -- From ISO/IEC 9899:1999: `/` truncates toward zero and `%` goes with it (6.5.5), and comparisons and logical operators give 0 or 1 (6.5.8, 6.5.9, 6.5.13, 6.5.14). That sums wrap, that MIN / -1 is MIN and that shifts take five bits is this project's own.
-use Rattle.std.specs.Prelude.{ℕ, zero, suc, ◌^◌, ◌%◌, Bool, true, false, ◌&&◌, ◌||◌, ◌==◌, not, if◌then◌else◌, Option, Some, None, ℤ, pos, negsuc, ◌+ℤ◌, ◌-ℤ◌, ◌*ℤ◌, neg_ℤ, int_lt, int_le, int_div, int_rem, FitsSigned}
+use Rattle.std.specs.Prelude.{ℕ, zero, suc, ◌^◌, ◌%◌, Bool, true, false, ◌&&◌, ◌||◌, not, if◌then◌else◌, Option, Some, None, ℤ, pos, negsuc, ◌+ℤ◌, ◌-ℤ◌, ◌*ℤ◌, neg_ℤ, int_lt, int_le, int_div, int_rem, FitsSigned}
+use Rattle.std.specs.Ordering.{int_eq}
 use Rattle.std.specs.Int.{w32, cast_unsigned, int_wrap, int_shl, int_shr, int_bit_and, int_bit_or, int_bit_xor, int_bit_not}
 use Rattle.prv_model.specs.declared.op.UnOp.{UnOp}
 use Rattle.prv_model.specs.declared.op.UnOp.TheVariants.{Neg, Not, Flip}
@@ -20,13 +21,6 @@ abbrev pub is_zero : ℤ → Bool
 is_zero (pos zero) = true
 is_zero (pos (suc n)) = false
 is_zero (negsuc n) = false
-
--- two words are one
-abbrev pub word_eq : ℤ → ℤ → Bool
-word_eq (pos a) (pos b) = a == b
-word_eq (pos a) (negsuc b) = false
-word_eq (negsuc a) (pos b) = false
-word_eq (negsuc a) (negsuc b) = a == b
 
 -- 1 for true, and 0 for false
 abbrev pub flag : Bool → ℤ
@@ -63,7 +57,7 @@ binary Lt a b = Some (flag (int_lt a b))
 binary Le a b = Some (flag (int_le a b))
 binary Gt a b = Some (flag (int_lt b a))
 binary Ge a b = Some (flag (int_le b a))
-binary Eq a b = Some (flag (word_eq a b))
-binary Ne a b = Some (flag (not (word_eq a b)))
+binary Eq a b = Some (flag (int_eq a b))
+binary Ne a b = Some (flag (not (int_eq a b)))
 binary AndAlso a b = Some (flag (not (is_zero a) && not (is_zero b)))
 binary OrElse a b = Some (flag (not (is_zero a) || not (is_zero b)))

@@ -3,6 +3,8 @@
 
 mod evaluate;
 mod execute;
+mod points;
 mod runs;
 
+pub use points::point_entries;
 pub use runs::run;
