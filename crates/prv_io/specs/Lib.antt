@@ -1,3 +1,5 @@
+pub mod FaultPlan
 pub mod Faults
 pub mod Files
+pub mod MemFiles
 pub mod Sink

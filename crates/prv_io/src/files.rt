@@ -1,9 +1,10 @@
 //! Files that are read whole, by name.
-ghost use Rattle.std.specs.Prelude.{◌≡◌, ℕ, ◌<◌, ◌≤◌, List, [], length, Option, None, Bool, false, IsTrue, IfSome, IsSomeAnd, OnOk, OnErr, IsErr, IsErrOf};
+ghost use Rattle.std.specs.Prelude.{◌≡◌, ℕ, ◌<◌, ◌≤◌, List, [], length, Option, None, Bool, false, IsTrue, IfSome, OnOk, OnErr, IsErrOf};
+ghost use Rattle.prv_io.specs.declared.files.FileError.TheVariants.{Memory};
 ghost use Rattle.prv_io.specs.Faults.{Rose};
 ghost use Rattle.prv_io.specs.Files.{UnlessFailed};
 
-use std::alloc::{AllocError, AllocFailed};
+use std::alloc::AllocError;
 use thiserror::Error;
 
 /// Why a file was not read.
@@ -18,6 +19,14 @@ pub enum FileError {
     /// Out of memory.
     #[error("out of memory")]
     Memory,
+}
+
+impl From<AllocError> for FileError {
+    ghost from_gives = { λ _ e. e ≡ Memory };
+
+    fn from(_: AllocError) -> Self {
+        FileError::Memory
+    }
 }
 
 /// Files that can be read whole, by name.
