@@ -4,9 +4,15 @@
 
 mod fault_plan;
 mod files;
+mod host_files;
+mod host_sink;
 mod mem_files;
+mod mem_sink;
 mod sink;
 
 pub use files::{FileError, Files};
+pub use host_files::HostFiles;
+pub use host_sink::HostSink;
 pub use mem_files::{MemFile, MemFiles};
+pub use mem_sink::MemSink;
 pub use sink::{Failed, Sink, write_all};
