@@ -21,4 +21,5 @@ is_to_fail plan = list_any (λ number. number == one_more plan.calls) plan.fail
 abbrev pub after_call : Bool → Plan → Plan
 after_call fails plan = record plan {
   calls = one_more plan.calls;
-  faults = if fails then one_more plan.faults else plan.faults }
+  faults = if fails then one_more plan.faults else plan.faults;
+}

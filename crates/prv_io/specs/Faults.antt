@@ -5,6 +5,6 @@ use Rattle.std.specs.Prelude.{ℕ, ◌+◌, ◌-◌, ◌^◌, ◌≤◌, min}
 abbrev pub one_more : ℕ → ℕ
 one_more count = min (count + 1) (2 ^ 64 - 1)
 
--- a count rose, or it is at the greatest 64-bit number, where it can't
+-- a count rose, or stands at the greatest 64-bit number, where it can't
 abbrev pub Rose : ℕ → ℕ → Type 0
 Rose before after = one_more before ≤ after

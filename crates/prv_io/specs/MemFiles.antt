@@ -10,7 +10,7 @@ pub record NamedBytes : Type 0 where
   pub bytes : List ℕ
 
 -- the files, first to last, and the calls so far
-pub record Shelf : Type 0 where
+pub record FilesInMemory : Type 0 where
   pub files : List NamedBytes
   pub plan : Plan
 
@@ -19,9 +19,9 @@ abbrev pub bytes_named : List NamedBytes → List ℕ → Option (List ℕ)
 bytes_named files name = option_map (λ file. file.bytes) (find (λ file. bytes_eq file.name name) files)
 
 -- the next read fails: it is to fail, or no file has this name
-abbrev pub read_fails : Shelf → List ℕ → Bool
-read_fails shelf name = is_to_fail shelf.plan || is_none (bytes_named shelf.files name)
+abbrev pub read_fails : FilesInMemory → List ℕ → Bool
+read_fails m name = is_to_fail m.plan || is_none (bytes_named m.files name)
 
 -- after a read of this name
-abbrev pub after_read : Shelf → List ℕ → Shelf
-after_read shelf name = record shelf { plan = after_call (read_fails shelf name) shelf.plan }
+abbrev pub after_read : FilesInMemory → List ℕ → FilesInMemory
+after_read m name = record m { plan = after_call (read_fails m name) m.plan }

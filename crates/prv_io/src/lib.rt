@@ -9,6 +9,8 @@ mod host_sink;
 mod mem_files;
 mod mem_sink;
 mod sink;
+#[cfg(test)]
+mod tests;
 
 pub use files::{FileError, Files};
 pub use host_files::HostFiles;

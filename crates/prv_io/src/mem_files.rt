@@ -33,9 +33,9 @@ pub struct MemFiles {
 }
 
 impl Model for MemFiles {
-    ghost use Rattle.prv_io.specs.MemFiles.{Shelf};
+    ghost use Rattle.prv_io.specs.MemFiles.{FilesInMemory};
 
-    ghost Value = { Shelf };
+    ghost Value = { FilesInMemory };
 
     ghost view = { λ m. record { files = m.files.items; plan = m.plan } };
 }
@@ -69,7 +69,7 @@ fn bytes_named<'a>(files: &'a [MemFile], name: &[u8]) -> Option<&'a [u8]>
 }
 
 // Puts the bytes into `into`, which is empty.
-fn copy_within(bytes: &[u8], limit: u32, into: &mut Vec<u8>) -> Result<(), FileError>
+fn copy_bytes(bytes: &[u8], limit: u32, into: &mut Vec<u8>) -> Result<(), FileError>
     requires { into.old.items ≡ [] }
     ensures ok { OnOk result ((into.new.items ≡ bytes.now) × (length bytes.now ≤ limit)) }
     ensures err { OnErr result (into.new.items ≡ []) }
@@ -109,6 +109,6 @@ impl Files for MemFiles {
         if fails {
             return Err(FileError::Failed);
         }
-        copy_within(bytes, limit, into)
+        copy_bytes(bytes, limit, into)
     }
 }

@@ -18,9 +18,9 @@ pub struct MemSink {
 
 impl Model for MemSink {
     ghost use Rattle.std.specs.Prelude.{◌+◌, ◌≤◌, vec_len, vec_capacity};
-    ghost use Rattle.prv_io.specs.MemSink.{Tray};
+    ghost use Rattle.prv_io.specs.MemSink.{SinkInMemory};
 
-    ghost Value = { Tray };
+    ghost Value = { SinkInMemory };
 
     ghost view = { λ s. record { room = s.room; taken = s.bytes.items; plan = s.plan } };
 
