@@ -1,5 +1,6 @@
 //! The real file system. No clause says what a file has.
-ghost use Rattle.std.specs.Prelude.{◌≡◌};
+ghost use Rattle.std.specs.Prelude.{◌≡◌, ◌<◌, ◌≤◌, length, IfOk, IfSome};
+ghost use Rattle.std.specs.Bool.{OnTrue, OnFalse};
 
 use crate::{FileError, Files};
 use std::io::Read;
@@ -37,12 +38,21 @@ impl<R: rt::Files> HostFiles<R> {
     }
 }
 
-// Adds a file's bytes to `into`, one more than the limit at most.
-fn read_up_to<R: rt::Files>(rt: &R, name: &str, limit: u32, into: &mut Vec<u8>) -> io::Result<()> {
-    fs::open(rt, name)?
-        .take(u64::from(limit) + 1)
-        .read_to_end(into)?;
-    Ok(())
+// Reads to the end, or one byte past the limit: whether that was the end.
+fn read_to_limit<R: Read + Drop>(reader: R, limit: u32, into: &mut Vec<u8>) -> io::Result<bool>
+    ensures within { IfOk result (λ ended. OnTrue ended (length into.new.items ≤ limit)) }
+    ensures bytes { IfOk result (λ ended. OnTrue ended (IfSome (R.remaining reader) (λ told. into.new.items ≡ told))) }
+    ensures longer { IfOk result (λ ended. OnFalse ended (IfSome (R.remaining reader) (λ told. limit < length told))) }
+{
+    into.clear();
+    reader.take(u64::from(limit) + 1).read_to_end(into)?;
+    Ok(into.len() <= limit as usize)
+}
+
+fn read_file<R: rt::Files>(rt: &R, name: &str, limit: u32, into: &mut Vec<u8>) -> io::Result<bool>
+    ensures within { IfOk result (λ ended. OnTrue ended (length into.new.items ≤ limit)) }
+{
+    read_to_limit(fs::open(rt, name)?, limit, into)
 }
 
 impl<R: rt::Files> Files for HostFiles<R> {
@@ -51,10 +61,9 @@ impl<R: rt::Files> Files for HostFiles<R> {
     /// A file that isn't there, or can't be opened or read, is `Failed`. Of a file that is `TooLong` one byte
     /// past the limit is read, and not the rest.
     fn read(&mut self, name: &str, limit: u32, into: &mut Vec<u8>) -> Result<(), FileError> {
-        into.clear();
-        let error = match read_up_to(&self.rt, name, limit, into) {
-            Ok(()) if into.len() <= limit as usize => return Ok(()),
-            Ok(()) => FileError::TooLong,
+        let error = match read_file(&self.rt, name, limit, into) {
+            Ok(true) => return Ok(()),
+            Ok(false) => FileError::TooLong,
             Err(error) if error.kind() == io::ErrorKind::OutOfMemory => FileError::Memory,
             Err(_) => {
                 self.faults = self.faults.saturating_add(1);

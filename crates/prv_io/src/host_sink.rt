@@ -1,5 +1,6 @@
 //! A real output. No clause says what it has taken.
-ghost use Rattle.std.specs.Prelude.{◌≡◌, ◌≤◌, length, IfOk};
+ghost use Rattle.std.specs.Prelude.{◌≡◌, ◌<◌, ◌≤◌, length, take, IfOk, IfSome, IfNone, OnErr};
+ghost use Rattle.std.specs.Io.KnownBytes.{Appends, Keeps};
 
 use crate::{Failed, Sink};
 use std::io;
@@ -38,8 +39,10 @@ impl<W: Write> HostSink<W> {
 }
 
 // One write, begun again where a signal interrupts it.
-fn write_some<W: Write>(out: &mut W, piece: &[u8]) -> io::Result<usize>
-    ensures { IfOk result (λ n. n ≤ length piece.now) }
+fn write_once<W: Write>(out: &mut W, piece: &[u8]) -> io::Result<usize>
+    ensures within { IfOk result (λ n. n ≤ length piece.now) }
+    ensures taken { IfOk result (λ n. Appends (W.contents out.old) (W.contents out.new) (take n piece.now)) }
+    ensures untaken { OnErr result (Keeps (W.contents out.old) (W.contents out.new)) }
 {
     for _ in 0..u64::MAX {
         match out.write(piece) {
@@ -50,18 +53,29 @@ fn write_some<W: Write>(out: &mut W, piece: &[u8]) -> io::Result<usize>
     Err(io::Error::from(io::ErrorKind::TimedOut))
 }
 
+// How many of the first bytes were taken, one at least unless the piece is empty, or none where that failed.
+fn write_some<W: Write>(out: &mut W, piece: &[u8]) -> Option<u32>
+    ensures within { IfSome result (λ n. n ≤ length piece.now) }
+    ensures some { IfSome result (λ n. 0 < length piece.now → 0 < n) }
+    ensures taken { IfSome result (λ n. Appends (W.contents out.old) (W.contents out.new) (take n piece.now)) }
+    ensures untaken { IfNone result (Keeps (W.contents out.old) (W.contents out.new)) }
+{
+    let offered = &piece[..piece.len().min(u32::MAX as usize)];
+    match write_once(out, offered) {
+        Ok(count) if count > 0 || piece.is_empty() => Some(count as u32),
+        _ => None,
+    }
+}
+
 impl<W: Write> Sink for HostSink<W> {
     ghost faults = { λ sink. sink };
 
     /// Offers the writer no more than 4,294,967,295 bytes at a time.
     fn write(&mut self, piece: &[u8]) -> Result<u32, Failed> {
-        let offered = &piece[..piece.len().min(u32::MAX as usize)];
-        match write_some(&mut self.out, offered) {
-            Ok(count) if count > 0 || piece.is_empty() => Ok(count as u32),
-            _ => {
-                self.faults = self.faults.saturating_add(1);
-                Err(Failed)
-            }
+        let count = write_some(&mut self.out, piece);
+        if count.is_none() {
+            self.faults = self.faults.saturating_add(1);
         }
+        count.ok_or(Failed)
     }
 }
