@@ -1,8 +1,6 @@
 //! Files in memory.
 ghost use Rattle.std.specs.Prelude.{◌≡◌, ◌↔◌, ◌<◌, ◌≤◌, [], length, false, IsTrue, IfSome, IsSomeAnd, OnOk, OnErr, IsErrOf, is_none};
 ghost use Rattle.std.specs.Option.{option_copied};
-ghost use Rattle.prv_io.specs.Faults.{Rose};
-ghost use Rattle.prv_io.specs.Files.{UnlessFailed};
 ghost use Rattle.prv_io.specs.FaultPlan.{fresh};
 ghost use Rattle.prv_io.specs.MemFiles.{bytes_named, read_fails, after_read};
 
