@@ -1,0 +1,7 @@
+//! The program `prv`.
+#![tactic(auto)]
+
+mod report;
+mod term_text;
+
+fn main(rt: HostRuntime) {}
