@@ -1,7 +1,7 @@
-ghost use Rattle.std.specs.Prelude.{◌≡◌, ◌<◌, ◌↔◌, [], ◌∷◌, length, IfNone, IfSome, option_map, bytes_eq};
+ghost use Rattle.std.specs.Prelude.{◌≡◌, ◌<◌, ◌≤◌, false, [], ◌∷◌, length, take, drop, IfNone, IfSome, option_map, bytes_eq};
 ghost use Rattle.std.specs.List.{prefix_len};
 ghost use Rattle.std.specs.Char.{is_ascii_digit};
-ghost use Rattle.prv_parse.specs.Tokens.{tokens, is_blank as is_blank_of, is_letter as is_letter_of, is_word_byte as is_word_byte_of};
+ghost use Rattle.prv_parse.specs.Tokens.{tokens, begins, past, is_blank as is_blank_of, is_letter as is_letter_of, is_word_byte as is_word_byte_of};
 ghost use Rattle.prv_parse.specs.Forms.{after as after_of};
 
 /// A space, tab, LF or CR.
@@ -47,12 +47,13 @@ fn word_at(text: &[u8]) -> usize
 }
 
 /// The first token and the text behind it, or nothing where only blanks are left.
+#[tactic(auto, using(crate::proofs::Cuts::no_tokens))]
 pub fn next_token(text: &[u8]) -> Option<(&[u8], &[u8])>
     ensures none { IfNone result (tokens text.now ≡ []) }
     ensures some { IfSome result (λ found. tokens text.now ≡ found.0.now ∷ tokens found.1.now) }
     ensures shorter { IfSome result (λ found. length found.1.now < length text.now) }
 {
-    let text = &text[blanks_at(text)..];
+    let text = after_blanks(text);
     if text.is_empty() {
         None
     } else {
@@ -60,9 +61,22 @@ pub fn next_token(text: &[u8]) -> Option<(&[u8], &[u8])>
     }
 }
 
+/// A text without the blanks at its front.
+fn after_blanks(text: &[u8]) -> &[u8]
+    ensures same { tokens result.now ≡ tokens text.now }
+    ensures first { begins is_blank_of result.now ≡ false }
+    ensures within { length result.now ≤ length text.now }
+{
+    text.split_at(blanks_at(text)).1
+}
+
 /// How many bytes the token at the front of a text has, which begins with no blank.
 fn token_at(text: &[u8]) -> usize
-    requires { 0 < length text.now }
+    requires some { 0 < length text.now }
+    requires no_blank { begins is_blank_of text.now ≡ false }
+    ensures cut { tokens text.now ≡ take result text.now ∷ tokens (drop result text.now) }
+    ensures some { 0 < result }
+    ensures within { result ≤ length text.now }
 {
     let first = text[0];
     if first.is_ascii_digit() {

@@ -1,0 +1,3 @@
+pub mod ByteClasses
+pub mod Fronts
+pub mod Cuts
