@@ -3,14 +3,14 @@ use Rattle.std.proofs.Common.{◌≡◌, ℕ, ◌<◌, Bool, true, false, List, 
 use Rattle.std.specs.List.{prefix_len, take_while, onto_first, flat_map}
 use Rattle.std.specs.Char.{is_ascii_digit}
 use Rattle.prv_parse.specs.Tokens.{is_blank, is_letter, is_word_byte, begins, past, runs, token, split, tokens}
-use Rattle.prv_parse.proofs.ByteClasses.{digit-word, letter-word, letter-no_digit, blank-no_word, no_word, word-letter, no_word-no_digit}
-use Rattle.prv_parse.proofs.Fronts.{front-yes, front-no, past-yes, past-no, front-front, past-front, past-past, begins-past, Tested, yes, no, tested}
+use Rattle.prv_parse.proofs.ByteClasses.{digit-word, letter-word, letter-no_digit, blank-no_word, no_word, no_word-no_digit}
+use Rattle.prv_parse.proofs.Fronts.{front-yes, front-no, past-yes, past-no, front-front, past-front, past-past, begins-past, yes, no, tested}
 
 -- a word byte and those behind it are one run
 runs-word : (b : ℕ) (bs : List ℕ) → is_word_byte b ≡ true → runs (b ∷ bs) ≡ (b ∷ take_while is_word_byte bs) ∷ runs (past is_word_byte bs)
 runs-word b [] e = rw e refl
 runs-word b (c ∷ cs) e = elim (tested (is_word_byte c)) [
-    yes f ↦
+  | yes f ↦
       let joins : runs (b ∷ c ∷ cs) ≡ onto_first b (runs (c ∷ cs)) = rw (e, f) refl in
       joins ∙ ap (onto_first b) (runs-word c cs f) ∙ ap (λ l. (b ∷ l) ∷ runs (past is_word_byte cs)) (sym (front-yes is_word_byte c cs f))
       ∙ ap (λ l. (b ∷ take_while is_word_byte (c ∷ cs)) ∷ runs l) (sym (past-yes is_word_byte c cs f))
@@ -18,7 +18,7 @@ runs-word b (c ∷ cs) e = elim (tested (is_word_byte c)) [
       let alone : runs (b ∷ c ∷ cs) ≡ (b ∷ []) ∷ runs (c ∷ cs) = rw (e, f) refl in
       alone ∙ ap (λ l. (b ∷ l) ∷ runs (c ∷ cs)) (sym (front-no is_word_byte c cs f))
       ∙ ap (λ l. (b ∷ take_while is_word_byte (c ∷ cs)) ∷ runs l) (sym (past-no is_word_byte c cs f))
-  ]
+]
 
 -- a run that begins with no digit is one token
 split-word : (b : ℕ) (bs : List ℕ) → is_ascii_digit b ≡ false → split (b ∷ bs) ≡ (b ∷ bs) ∷ []
@@ -38,13 +38,13 @@ rest-cut : (bs : List ℕ) → begins is_ascii_digit bs ≡ false → tokens bs 
 unfolding tokens
 rest-cut [] e = refl
 rest-cut (c ∷ cs) e = elim (tested (is_word_byte c)) [
-    yes f ↦
+  | yes f ↦
       let one : token (take_while is_word_byte (c ∷ cs)) ≡ take_while is_word_byte (c ∷ cs) ∷ [] =
-          ap token (front-yes is_word_byte c cs f) ∙ ap (λ l. l ∷ []) (sym (front-yes is_word_byte c cs f)) in
+      ap token (front-yes is_word_byte c cs f) ∙ ap (λ l. l ∷ []) (sym (front-yes is_word_byte c cs f)) in
       word-cut c cs f e ∙ ap (λ l. l ++ tokens (past is_word_byte (c ∷ cs))) (sym one)
   | no f ↦
       ap tokens (sym (past-no is_word_byte c cs f)) ∙ ap (λ l. token l ++ tokens (past is_word_byte (c ∷ cs))) (sym (front-no is_word_byte c cs f))
-  ]
+]
 
 -- a number
 number-cut : (b : ℕ) (bs : List ℕ) → is_ascii_digit b ≡ true → tokens (b ∷ bs) ≡ take_while is_ascii_digit (b ∷ bs) ∷ tokens (past is_ascii_digit (b ∷ bs))
@@ -90,11 +90,11 @@ pub cuts-blanks : (text : List ℕ) → tokens text ≡ tokens (drop (prefix_len
 unfolding tokens
 cuts-blanks [] = refl
 cuts-blanks (b ∷ bs) = elim (tested (is_blank b)) [
-    yes e ↦
+  | yes e ↦
       let left_out : runs (b ∷ bs) ≡ runs bs = rw (blank-no_word b e, e) refl in
       ap (flat_map split) left_out ∙ cuts-blanks bs ∙ ap tokens (sym (past-yes is_blank b bs e))
   | no e ↦ ap tokens (sym (past-no is_blank b bs e))
-  ]
+]
 
 pub no_tokens : (text : List ℕ) → length text ≡ 0 → tokens text ≡ []
 unfolding tokens

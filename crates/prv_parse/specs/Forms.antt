@@ -51,15 +51,21 @@ abbrev pub items_of : List ℕ → List (List ℕ) → Option (List Item)
 items_of name (t ∷ s ∷ ts) = joined (item_of name t) (if bytes_eq s (codes "+") then items_of name ts else ended (after (tokens (codes "; }")) (s ∷ ts)))
 items_of name _ = None
 
--- a form has at most 257 items
-abbrev pub form_with : List ℕ → Bool → Option (List Item) → Option Form
-form_with name marked None = None
-form_with name marked (Some items) = if nat_le (length items) 257 then Some (record { name = name; marked = marked; items = items }) else None
+-- the items of a sum, of which there are at most 257
+abbrev pub few : Option (List Item) → Option (List Item)
+few None = None
+few (Some items) = if nat_le (length items) 257 then Some items else None
+
+abbrev pub sum_in : List ℕ → List (List ℕ) → Option (List Item)
+sum_in name ts = few (items_of name ts)
+
+abbrev pub form_with : List ℕ → Bool → List Item → Form
+form_with name marked items = record { name = name; marked = marked; items = items }
 
 -- the form of `@ 1 return SUM ; }`, by what follows `return`, or else of `return SUM ; }`
 abbrev pub form_in : List ℕ → Option (List (List ℕ)) → Option (List (List ℕ)) → Option Form
-form_in name (Some sum) _ = form_with name true (items_of name sum)
-form_in name None (Some sum) = form_with name false (items_of name sum)
+form_in name (Some sum) _ = option_map (λ items. form_with name true items) (sum_in name sum)
+form_in name None (Some sum) = option_map (λ items. form_with name false items) (sum_in name sum)
 form_in name None None = None
 
 -- the form of `{ S }` behind its brace

@@ -1,5 +1,5 @@
 -- The program of a form.
-use Rattle.std.specs.Prelude.{◌≡◌, ℕ, Bool, true, false, List, [], ◌∷◌, fold, pos}
+use Rattle.std.specs.Prelude.{◌≡◌, Bool, true, false, List, [], ◌∷◌, fold, pos}
 use Rattle.prv_model.specs.declared.op.BinOp.TheVariants.{Add}
 use Rattle.prv_model.specs.declared.expr.Expr.{Expr}
 use Rattle.prv_model.specs.declared.expr.Expr.TheVariants as expr

@@ -1,4 +1,5 @@
-ghost use Rattle.std.specs.Prelude.{◌≡◌, ◌∷◌, [], IfOk, fold};
+ghost use Rattle.std.specs.Prelude.{◌≡◌, ◌≤◌, true, ◌∷◌, [], IfOk, fold};
+ghost use Rattle.prv_model.specs.Programs.{reads_below, is_below, stmt_count};
 ghost use Rattle.prv_parse.specs.Trees.{expr_of, plus, sum_of, marked_as, IsProgramOf};
 ghost use Rattle.prv_model.specs.declared.stmt.Stmt.TheVariants.{Return};
 
@@ -34,7 +35,10 @@ impl Form {
 
 /// `return value`, with the mark 1 where it is marked.
 fn statement(alloc: Global, marked: bool, value: Expr) -> Result<Stmt, AllocError>
-    ensures { IfOk result (λ stmt. stmt ≡ marked_as marked (Return value)) }
+    requires { reads_below 1 value ≡ true }
+    ensures made { IfOk result (λ stmt. stmt ≡ marked_as marked (Return value)) }
+    ensures below { IfOk result (λ stmt. is_below 1 stmt ≡ true) }
+    ensures small { IfOk result (λ stmt. stmt_count stmt ≤ 2) }
 {
     let stmt = Stmt::Return(value);
     if marked {
@@ -49,7 +53,8 @@ fn statement(alloc: Global, marked: bool, value: Expr) -> Result<Stmt, AllocErro
 
 /// The sum of the items, grouped to the left; of none it is 0.
 fn sum(alloc: Global, items: &[Item]) -> Result<Expr, AllocError>
-    ensures { IfOk result (λ sum. sum ≡ sum_of items.now) }
+    ensures made { IfOk result (λ sum. sum ≡ sum_of items.now) }
+    ensures below { IfOk result (λ sum. reads_below 1 sum ≡ true) }
 {
     match items.split_first() {
         None => Ok(Expr::Num(0)),
@@ -59,7 +64,9 @@ fn sum(alloc: Global, items: &[Item]) -> Result<Expr, AllocError>
 
 /// An expression with the items added on its right, one after the other.
 fn add_all(alloc: Global, first: Expr, rest: &[Item]) -> Result<Expr, AllocError>
-    ensures { IfOk result (λ sum. sum ≡ fold plus first rest.now) }
+    requires { reads_below 1 first ≡ true }
+    ensures made { IfOk result (λ sum. sum ≡ fold plus first rest.now) }
+    ensures below { IfOk result (λ sum. reads_below 1 sum ≡ true) }
 {
     let mut sum = first;
     for item in rest {
@@ -74,7 +81,8 @@ fn add_all(alloc: Global, first: Expr, rest: &[Item]) -> Result<Expr, AllocError
 
 /// An item as an expression; the parameter is variable 0.
 fn expr(item: Item) -> Expr
-    ensures { result ≡ expr_of item }
+    ensures made { result ≡ expr_of item }
+    ensures below { reads_below 1 result ≡ true }
 {
     match item {
         Item::Param => Expr::Var(0),

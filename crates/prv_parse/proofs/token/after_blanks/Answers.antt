@@ -1,6 +1,6 @@
-use Rattle.std.proofs.Common.{◌≡◌, ◌≤◌, length, sym, ◌∙◌, ap, drop, arith}
+use Rattle.std.proofs.Common.{sym, arith}
 use Rattle.std.proofs.lemmas.List.Sums.{prefix_len-le-length}
-use Rattle.prv_parse.specs.Tokens.{is_blank, begins, past, tokens}
+use Rattle.prv_parse.specs.Tokens.{is_blank}
 use Rattle.prv_parse.proofs.Fronts.{begins-past}
 use Rattle.prv_parse.proofs.Cuts.{cuts-blanks}
 use Rattle.prv_parse.proofs.token.after_blanks.Goals as goal
