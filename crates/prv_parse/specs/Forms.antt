@@ -51,14 +51,16 @@ abbrev pub items_of : List ℕ → List (List ℕ) → Option (List Item)
 items_of name (t ∷ s ∷ ts) = joined (item_of name t) (if bytes_eq s (codes "+") then items_of name ts else ended (after (tokens (codes "; }")) (s ∷ ts)))
 items_of name _ = None
 
--- the items of a sum, of which there are at most 257
+-- a sum has at most 257 items
 abbrev pub few : Option (List Item) → Option (List Item)
 few None = None
 few (Some items) = if nat_le (length items) 257 then Some items else None
 
+-- the items of `SUM ; }`
 abbrev pub sum_in : List ℕ → List (List ℕ) → Option (List Item)
 sum_in name ts = few (items_of name ts)
 
+-- a form by its parts
 abbrev pub form_with : List ℕ → Bool → List Item → Form
 form_with name marked items = record { name = name; marked = marked; items = items }
 

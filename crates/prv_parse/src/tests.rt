@@ -199,3 +199,38 @@ fn groups_the_sum_to_the_left(rt: HostRuntime) -> Result<(), Fail> {
     }
     Ok(())
 }
+
+#[test]
+fn compares_items_alone(rt: HostRuntime) -> Result<(), Fail> {
+    let rows = [
+        (
+            "int main(int a) { return a + 1; }",
+            "int main(int b) { @1 return b+1; }",
+            true,
+        ),
+        (
+            "int main(int a) { return a + 1; }",
+            "int main(int a) { return 1 + a; }",
+            false,
+        ),
+        (
+            "int main(int a) { return a; }",
+            "int main(int a) { return a + a; }",
+            false,
+        ),
+        (
+            "int main(int a) { return 3; }",
+            "int main(int a) { return 4; }",
+            false,
+        ),
+    ];
+    for (before, after, same) in rows {
+        let one = read_form(rt.alloc(), before.as_bytes())?;
+        let other = read_form(rt.alloc(), after.as_bytes())?;
+        match (one, other) {
+            (Some(one), Some(other)) => assert_eq!(rt; one.same_items(&other), same, "{before}"),
+            _ => panic!(rt; "refused: {before}"),
+        }
+    }
+    Ok(())
+}

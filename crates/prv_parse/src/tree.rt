@@ -70,11 +70,9 @@ fn add_all(alloc: Global, first: Expr, rest: &[Item]) -> Result<Expr, AllocError
 {
     let mut sum = first;
     for item in rest {
-        sum = Expr::Bin(
-            BinOp::Add,
-            Boxed::new(alloc, sum)?,
-            Boxed::new(alloc, expr(*item))?,
-        );
+        let left = Boxed::new(alloc, sum)?;
+        let right = Boxed::new(alloc, expr(*item))?;
+        sum = Expr::Bin(BinOp::Add, left, right);
     }
     Ok(sum)
 }
