@@ -1,0 +1,5 @@
+pub mod ByteClasses
+pub mod Fronts
+pub mod Cuts
+pub mod Numbers
+pub mod Sums
