@@ -8,6 +8,7 @@ mod arithmetic;
 mod entry;
 mod expr;
 mod input;
+mod laws;
 mod name;
 mod op;
 mod outcome;
@@ -15,12 +16,15 @@ mod program;
 mod same;
 mod stmt;
 mod term;
+#[cfg(test)]
+mod tests;
 mod verdict;
 
 pub use arithmetic::apply;
 pub use entry::{Entry, Kind, Reason};
 pub use expr::Expr;
 pub use input::Input;
+pub use laws::one_verdict;
 pub use name::Name;
 pub use op::{BinOp, TermOp, UnOp};
 pub use outcome::{Ending, Outcome};

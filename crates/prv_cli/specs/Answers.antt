@@ -1,0 +1,48 @@
+-- What the program answers, and with which status.
+use Rattle.std.specs.Prelude.{◌≡◌, ℕ, List, [], ◌∷◌, ℤ, Option, codes, ◌⊎◌}
+use Rattle.std.specs.Io.KnownBytes.{append_known}
+use Rattle.prv_io.specs.Sink.{TakesPart}
+use Rattle.prv_model.specs.declared.program.Pair.{Pair}
+use Rattle.prv_model.specs.declared.entry.Entry.{Entry}
+use Rattle.prv_model.specs.declared.entry.Kind.{Kind}
+use Rattle.prv_model.specs.declared.entry.Kind.TheVariants.{Same, Different, Empty, Beyond, Unexplored, Undecided}
+use Rattle.prv_model.specs.Boards.{IsLegal, FirstHoldsOnly}
+use Rattle.prv_cli.specs.Pairs.{GivesPair}
+use Rattle.prv_cli.specs.Texts.{line}
+use Rattle.prv_cli.specs.declared.fault.Fault.{Fault}
+use Rattle.prv_cli.specs.declared.fault.Fault.TheVariants as fault
+
+-- the status of a refusal
+abbrev pub status_of : Fault → ℕ
+status_of fault.Usage = 3
+status_of fault.Later = 4
+status_of fault.Read = 5
+status_of fault.Write = 6
+status_of fault.Memory = 9
+
+-- the line of a refusal
+abbrev pub fault_line : Fault → List ℕ
+fault_line fault.Usage = line (codes "prv: usage")
+fault_line fault.Later = line (codes "prv: later")
+fault_line fault.Read = line (codes "prv: read fault")
+fault_line fault.Write = line (codes "prv: write fault")
+fault_line fault.Memory = line (codes "prv: memory")
+
+-- a sink took all of the bytes, or some of the first of them
+abbrev pub TakesSome : Option (List ℕ) → Option (List ℕ) → List ℕ → Type 0
+TakesSome before after bytes = (after ≡ append_known before bytes) ⊎ TakesPart before after bytes
+
+-- the status that a claim on the point gives
+abbrev pub kind_status : Kind → ℕ
+kind_status (Different sample) = 1
+kind_status _ = 2
+
+abbrev pub entries_status : List Entry → ℕ
+entries_status [] = 2
+entries_status (first ∷ rest) = kind_status first.kind
+
+-- the entries say what is true of the pair that two files give, and the first of them holds exactly the input
+pub record IsAnswer (old new : List ℕ) (word : ℤ) (pair : Pair) (entries : List Entry) : Type 0 where
+  pub gives : GivesPair old new pair
+  pub legal : IsLegal pair entries
+  pub point : FirstHoldsOnly 1 entries (word ∷ [])
