@@ -32,13 +32,13 @@ body_tokens form = mark_tokens form.marked ++ (tokens (codes "return") ++ (sum_t
 abbrev pub spelling : Form → List (List ℕ)
 spelling form = tokens (codes "int main ( int") ++ (form.name ∷ (tokens (codes ") {") ++ body_tokens form))
 
--- a number that has a token
+-- the parameter, or a number that has a token
 abbrev pub IsItem : Item → Type 0
 IsItem Param = Unit {0}
 IsItem (Num (pos n)) = n ≤ 2147483647
 IsItem (Num (negsuc n)) = ⊥
 
--- a form that some text spells
+-- what a form that is read keeps: a name that is one, 1 to 257 items, and numbers that have a token
 pub record IsForm (form : Form) : Type 0 where
   pub named : is_name form.name ≡ true
   pub some_items : 1 ≤ length form.items

@@ -6,7 +6,7 @@ ghost use Rattle.prv_parse.specs.Spellings.{IsForm, spelling};
 
 /// A text is read as a form exactly where its tokens are those that spell the form.
 ///
-/// So each form is read from some text, and each text is read as one form at most.
+/// Two texts with the same tokens are so read as one form, and a text with other tokens isn't read as it.
 pub fn spelled()
     ensures { (text : List ℕ) (form : Form) → (form_of text ≡ Some form) ↔ (IsForm form × (tokens text ≡ spelling form)) }
 {}
