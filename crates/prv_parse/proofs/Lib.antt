@@ -3,3 +3,4 @@ pub mod Fronts
 pub mod Cuts
 pub mod Numbers
 pub mod Sums
+pub mod SpellingLaw

@@ -6,11 +6,13 @@
 #![tactic(auto)]
 
 mod form;
+mod law;
 mod read;
 mod token;
 mod tree;
 
 pub use form::{Form, Item};
+pub use law::spelled;
 pub use read::read_form;
 
 #[cfg(test)]
