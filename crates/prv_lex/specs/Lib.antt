@@ -1,0 +1,9 @@
+pub mod Bytes
+pub mod Keywords
+pub mod Symbols
+pub mod Numbers
+pub mod Comments
+pub mod Lexemes
+pub mod Spacings
+pub mod Readings
+pub mod Fronts
