@@ -1,5 +1,5 @@
 -- What the program answers, and with which status.
-use Rattle.std.specs.Prelude.{◌≡◌, ℕ, List, [], ◌∷◌, ℤ, Option, codes, ◌⊎◌}
+use Rattle.std.specs.Prelude.{◌≡◌, ℕ, List, [], ◌∷◌, ℤ, Option, Result, Ok, Err, ⊤, codes, ◌⊎◌}
 use Rattle.std.specs.Io.KnownBytes.{append_known}
 use Rattle.prv_io.specs.Sink.{TakesPart}
 use Rattle.prv_model.specs.declared.program.Pair.{Pair}
@@ -8,7 +8,7 @@ use Rattle.prv_model.specs.declared.entry.Kind.{Kind}
 use Rattle.prv_model.specs.declared.entry.Kind.TheVariants.{Same, Different, Empty, Beyond, Unexplored, Undecided}
 use Rattle.prv_model.specs.Boards.{IsLegal, FirstHoldsOnly}
 use Rattle.prv_cli.specs.Pairs.{GivesPair}
-use Rattle.prv_cli.specs.Texts.{line}
+use Rattle.prv_cli.specs.Texts.{line, point_report}
 use Rattle.prv_cli.specs.declared.fault.Fault.{Fault}
 use Rattle.prv_cli.specs.declared.fault.Fault.TheVariants as fault
 
@@ -41,8 +41,46 @@ abbrev pub entries_status : List Entry → ℕ
 entries_status [] = 2
 entries_status (first ∷ rest) = kind_status first.kind
 
--- the entries say what is true of the pair that two files give, and the first of them holds exactly the input
-pub record IsAnswer (old new : List ℕ) (word : ℤ) (pair : Pair) (entries : List Entry) : Type 0 where
-  pub gives : GivesPair old new pair
+-- a text and a status show entries that are true of a pair, of which the first holds exactly the input
+pub record Shows (pair : Pair) (word : ℤ) (text : List ℕ) (status : ℕ) : Type 0 where
+  pub entries : List Entry
   pub legal : IsLegal pair entries
   pub point : FirstHoldsOnly 1 entries (word ∷ [])
+  pub text_is : text ≡ point_report pair.before.names entries
+  pub status_is : status ≡ entries_status entries
+
+-- the same of the pair that two files give
+pub record IsAnswer (old new : List ℕ) (word : ℤ) (text : List ℕ) (status : ℕ) : Type 0 where
+  pub pair : Pair
+  pub gives : GivesPair old new pair
+  pub shows : Shows pair word text status
+
+-- P, unless the answer is that a file couldn't be read, or that the report couldn't be written
+abbrev pub UnlessRead : {T : Type 0} → Result T Fault → Type 0 → Type 0
+UnlessRead (Ok x) P = P
+UnlessRead (Err fault.Read) P = ⊤
+UnlessRead (Err fault.Usage) P = P
+UnlessRead (Err fault.Later) P = P
+UnlessRead (Err fault.Write) P = P
+UnlessRead (Err fault.Memory) P = P
+
+abbrev pub UnlessWrite : {T : Type 0} → Result T Fault → Type 0 → Type 0
+UnlessWrite (Ok x) P = P
+UnlessWrite (Err fault.Write) P = ⊤
+UnlessWrite (Err fault.Usage) P = P
+UnlessWrite (Err fault.Later) P = P
+UnlessWrite (Err fault.Read) P = P
+UnlessWrite (Err fault.Memory) P = P
+
+-- P, where the answer is a refusal but for the report that couldn't be written
+abbrev pub OnRefusal : {T : Type 0} → Result T Fault → Type 0 → Type 0
+OnRefusal (Ok x) P = ⊤
+OnRefusal (Err f) P = UnlessWrite {T = ℕ} (Err f) P
+
+-- a reading can only fail as a file or for want of memory
+abbrev pub IsReadFault : Fault → Type 0
+IsReadFault fault.Read = ⊤
+IsReadFault fault.Memory = ⊤
+IsReadFault fault.Usage = ⊥
+IsReadFault fault.Later = ⊥
+IsReadFault fault.Write = ⊥

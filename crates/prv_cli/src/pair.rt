@@ -1,5 +1,5 @@
 //! The pair that two files of the first form give.
-ghost use Rattle.std.specs.Prelude.{◌≡◌, ◌≤◌, ◌↔◌, ⊥, IsTrue, MatchOption, IfOk, length};
+ghost use Rattle.std.specs.Prelude.{◌≡◌, ◌≤◌, ◌↔◌, IsTrue, IfSome, MatchOption, IfOk, length};
 ghost use Rattle.prv_cli.specs.Pairs.{IsComparable, GivesPair};
 ghost use Rattle.prv_model.specs.declared.program.Pair.{Pair as PairIs};
 

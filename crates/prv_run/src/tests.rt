@@ -1,0 +1,150 @@
+ghost use Rattle.std.specs.Prelude.{◌≡◌, map};
+ghost use Rattle.std.specs.Option.{option_map};
+ghost use Rattle.prv_model.specs.Programs.{is_below as is_below_of, reads_below as reads_below_of, all_true, passed};
+
+use crate::execute::{Frame, execute_all};
+use prv_model::{BinOp, Ending, Expr, Stmt, UnOp};
+use sqlite_items::{Boxed, Items};
+use std::test::Fail;
+
+/// Whether each variable of an expression is below n.
+fn reads_below(expr: &Expr, n: usize) -> bool
+    ensures { result ≡ reads_below_of n expr.now }
+{
+    match expr {
+        Expr::Num(_) => true,
+        Expr::Var(v) => (*v as usize) < n,
+        Expr::Un(_, a) => reads_below(a.get(), n),
+        Expr::Bin(_, a, b) => reads_below(a.get(), n) && reads_below(b.get(), n),
+        Expr::Pick(test, chosen, other) => {
+            reads_below(test.get(), n)
+                && reads_below(chosen.get(), n)
+                && reads_below(other.get(), n)
+        }
+    }
+}
+
+/// Whether each variable of a statement is below n.
+#[cycle(below)]
+fn is_below(stmt: &Stmt, n: usize) -> bool
+    ensures { result ≡ is_below_of n stmt.now }
+{
+    match stmt {
+        Stmt::Skip => true,
+        Stmt::Set { var, value } => (*var as usize) < n && reads_below(value, n),
+        Stmt::If { test, yes, no } => {
+            reads_below(test, n) && is_below(yes.get(), n) && is_branch_below(no, n)
+        }
+        Stmt::While { test, body } => reads_below(test, n) && is_below(body.get(), n),
+        Stmt::Return(value) => reads_below(value, n),
+        Stmt::Out(value) => reads_below(value, n),
+        Stmt::Assert(value) => reads_below(value, n),
+        Stmt::Block(all) => are_below(all.as_slice(), n),
+        Stmt::Marked { mark: _, body } => is_below(body.get(), n),
+    }
+}
+
+#[cycle(below)]
+fn is_branch_below(branch: &Option<Boxed<Stmt>>, n: usize) -> bool
+    ensures { result ≡ passed (option_map (λ s. is_below_of n s) branch.now) }
+{
+    match branch {
+        None => true,
+        Some(stmt) => is_below(stmt.get(), n),
+    }
+}
+
+#[cycle(below)]
+fn are_below(all: &[Stmt], n: usize) -> bool
+    ensures { result ≡ all_true (map (λ s. is_below_of n s) all.now) }
+{
+    for stmt in all {
+        if !is_below(stmt, n) {
+            return false;
+        }
+    }
+    true
+}
+
+fn bin(rt: &HostRuntime, op: BinOp, a: Expr, b: Expr) -> Result<Expr, Fail> {
+    Ok(Expr::Bin(op, Boxed::new(rt.alloc(), a)?, Boxed::new(rt.alloc(), b)?))
+}
+
+fn block(rt: &HostRuntime, first: Stmt, second: Stmt) -> Result<Stmt, Fail> {
+    let mut all = Items::new(rt.alloc());
+    all.push(first)?;
+    all.push(second)?;
+    Ok(Stmt::Block(all))
+}
+
+fn zero(var: u8) -> Stmt {
+    Stmt::Set {
+        var,
+        value: Expr::Num(0),
+    }
+}
+
+fn one_more(rt: &HostRuntime, var: u8) -> Result<Stmt, Fail> {
+    Ok(Stmt::Set {
+        var,
+        value: bin(rt, BinOp::Add, Expr::Var(var), Expr::Num(1))?,
+    })
+}
+
+fn while_below(rt: &HostRuntime, var: u8, limit: i32, body: Stmt) -> Result<Stmt, Fail> {
+    Ok(Stmt::While {
+        test: bin(rt, BinOp::Lt, Expr::Var(var), Expr::Num(limit))?,
+        body: Boxed::new(rt.alloc(), body)?,
+    })
+}
+
+/// How a statement ends a run of two variables that are 0, and how many words it has put out.
+fn run_of(rt: &HostRuntime, stmt: Stmt, turns: u32) -> Result<(Option<Ending>, usize), Fail> {
+    let mut body = Items::new(rt.alloc());
+    body.push(stmt)?;
+    let mut frame = Frame {
+        state: Items::from_slice(rt.alloc(), &[0, 0])?,
+        outs: Items::new(rt.alloc()),
+        turns,
+    };
+    let count = frame.state.len();
+    assert!(rt; are_below(body.as_slice(), count));
+    let ending = execute_all(body.as_slice(), &mut frame)?;
+    Ok((ending, frame.outs.len()))
+}
+
+/// Three turns of an outer loop, each with three of an inner one: a turn that the inner loop spends is
+/// spent for the outer one too, so the run wants twelve.
+fn nested_loops(rt: &HostRuntime) -> Result<Stmt, Fail> {
+    let inner = while_below(rt, 1, 3, one_more(rt, 1)?)?;
+    let turn = block(rt, zero(1), block(rt, inner, one_more(rt, 0)?)?)?;
+    block(rt, while_below(rt, 0, 3, turn)?, Stmt::Return(Expr::Var(0)))
+}
+
+#[test]
+fn turns_are_counted_over_the_whole_run(rt: HostRuntime) -> Result<(), Fail> {
+    let short = run_of(&rt, nested_loops(&rt)?, 11)?;
+    assert!(rt; short.0 == Some(Ending::Long));
+    assert_eq!(rt; short.1, 0);
+    let enough = run_of(&rt, nested_loops(&rt)?, 12)?;
+    assert!(rt; enough.0 == Some(Ending::Returned));
+    assert_eq!(rt; enough.1, 1);
+    Ok(())
+}
+
+/// A divisor of 0 is a fault only where it is evaluated.
+#[test]
+fn operands_are_evaluated_where_they_are_needed(rt: HostRuntime) -> Result<(), Fail> {
+    let quotient = bin(&rt, BinOp::Div, Expr::Num(1), Expr::Var(0))?;
+    let guarded = bin(&rt, BinOp::AndAlso, Expr::Num(0), quotient)?;
+    assert!(rt; run_of(&rt, Stmt::Out(guarded), 1)?.0.is_none());
+    let quotient = bin(&rt, BinOp::Div, Expr::Num(1), Expr::Var(0))?;
+    let needed = bin(&rt, BinOp::OrElse, Expr::Num(0), quotient)?;
+    assert!(rt; run_of(&rt, Stmt::Out(needed), 1)?.0 == Some(Ending::Fault));
+    let flipped = Expr::Un(UnOp::Not, Boxed::new(rt.alloc(), Expr::Num(3))?);
+    let failed = block(&rt, Stmt::Out(Expr::Num(7)), Stmt::Assert(flipped))?;
+    let run = run_of(&rt, failed, 1)?;
+    assert!(rt; run.0 == Some(Ending::Assert));
+    assert_eq!(rt; run.1, 1);
+    Ok(())
+}
