@@ -5,6 +5,8 @@ ghost use Rattle.prv_model.specs.Programs.{is_below as is_below_of, reads_below 
 use crate::execute::{Frame, execute_all};
 use prv_model::{BinOp, Ending, Expr, Stmt, UnOp};
 use sqlite_items::{Boxed, Items};
+use std::alloc::Global;
+use std::process::Abort;
 use std::test::Fail;
 
 /// Whether each variable of an expression is below n.
@@ -66,12 +68,12 @@ fn are_below(all: &[Stmt], n: usize) -> bool
     true
 }
 
-fn bin(rt: &HostRuntime, op: BinOp, a: Expr, b: Expr) -> Result<Expr, Fail> {
-    Ok(Expr::Bin(op, Boxed::new(rt.alloc(), a)?, Boxed::new(rt.alloc(), b)?))
+fn bin(alloc: Global, op: BinOp, a: Expr, b: Expr) -> Result<Expr, Fail> {
+    Ok(Expr::Bin(op, Boxed::new(alloc, a)?, Boxed::new(alloc, b)?))
 }
 
-fn block(rt: &HostRuntime, first: Stmt, second: Stmt) -> Result<Stmt, Fail> {
-    let mut all = Items::new(rt.alloc());
+fn block(alloc: Global, first: Stmt, second: Stmt) -> Result<Stmt, Fail> {
+    let mut all = Items::new(alloc);
     all.push(first)?;
     all.push(second)?;
     Ok(Stmt::Block(all))
@@ -84,27 +86,32 @@ fn zero(var: u8) -> Stmt {
     }
 }
 
-fn one_more(rt: &HostRuntime, var: u8) -> Result<Stmt, Fail> {
+fn one_more(alloc: Global, var: u8) -> Result<Stmt, Fail> {
     Ok(Stmt::Set {
         var,
-        value: bin(rt, BinOp::Add, Expr::Var(var), Expr::Num(1))?,
+        value: bin(alloc, BinOp::Add, Expr::Var(var), Expr::Num(1))?,
     })
 }
 
-fn while_below(rt: &HostRuntime, var: u8, limit: i32, body: Stmt) -> Result<Stmt, Fail> {
+fn while_below(alloc: Global, var: u8, limit: i32, body: Stmt) -> Result<Stmt, Fail> {
     Ok(Stmt::While {
-        test: bin(rt, BinOp::Lt, Expr::Var(var), Expr::Num(limit))?,
-        body: Boxed::new(rt.alloc(), body)?,
+        test: bin(alloc, BinOp::Lt, Expr::Var(var), Expr::Num(limit))?,
+        body: Boxed::new(alloc, body)?,
     })
 }
 
 /// How a statement ends a run of two variables that are 0, and how many words it has put out.
-fn run_of(rt: &HostRuntime, stmt: Stmt, turns: u32) -> Result<(Option<Ending>, usize), Fail> {
-    let mut body = Items::new(rt.alloc());
+fn run_of(
+    rt: &impl Abort,
+    alloc: Global,
+    stmt: Stmt,
+    turns: u32,
+) -> Result<(Option<Ending>, usize), Fail> {
+    let mut body = Items::new(alloc);
     body.push(stmt)?;
     let mut frame = Frame {
-        state: Items::from_slice(rt.alloc(), &[0, 0])?,
-        outs: Items::new(rt.alloc()),
+        state: Items::from_slice(alloc, &[0, 0])?,
+        outs: Items::new(alloc),
         turns,
     };
     let count = frame.state.len();
@@ -115,18 +122,23 @@ fn run_of(rt: &HostRuntime, stmt: Stmt, turns: u32) -> Result<(Option<Ending>, u
 
 /// Three turns of an outer loop, each with three of an inner one: a turn that the inner loop spends is
 /// spent for the outer one too, so the run wants twelve.
-fn nested_loops(rt: &HostRuntime) -> Result<Stmt, Fail> {
-    let inner = while_below(rt, 1, 3, one_more(rt, 1)?)?;
-    let turn = block(rt, zero(1), block(rt, inner, one_more(rt, 0)?)?)?;
-    block(rt, while_below(rt, 0, 3, turn)?, Stmt::Return(Expr::Var(0)))
+fn nested_loops(alloc: Global) -> Result<Stmt, Fail> {
+    let inner = while_below(alloc, 1, 3, one_more(alloc, 1)?)?;
+    let turn = block(alloc, zero(1), block(alloc, inner, one_more(alloc, 0)?)?)?;
+    block(
+        alloc,
+        while_below(alloc, 0, 3, turn)?,
+        Stmt::Return(Expr::Var(0)),
+    )
 }
 
 #[test]
 fn turns_are_counted_over_the_whole_run(rt: HostRuntime) -> Result<(), Fail> {
-    let short = run_of(&rt, nested_loops(&rt)?, 11)?;
+    let alloc = rt.alloc();
+    let short = run_of(&rt, alloc, nested_loops(alloc)?, 11)?;
     assert!(rt; short.0 == Some(Ending::Long));
     assert_eq!(rt; short.1, 0);
-    let enough = run_of(&rt, nested_loops(&rt)?, 12)?;
+    let enough = run_of(&rt, alloc, nested_loops(alloc)?, 12)?;
     assert!(rt; enough.0 == Some(Ending::Returned));
     assert_eq!(rt; enough.1, 1);
     Ok(())
@@ -135,15 +147,16 @@ fn turns_are_counted_over_the_whole_run(rt: HostRuntime) -> Result<(), Fail> {
 /// A divisor of 0 is a fault only where it is evaluated.
 #[test]
 fn operands_are_evaluated_where_they_are_needed(rt: HostRuntime) -> Result<(), Fail> {
-    let quotient = bin(&rt, BinOp::Div, Expr::Num(1), Expr::Var(0))?;
-    let guarded = bin(&rt, BinOp::AndAlso, Expr::Num(0), quotient)?;
-    assert!(rt; run_of(&rt, Stmt::Out(guarded), 1)?.0.is_none());
-    let quotient = bin(&rt, BinOp::Div, Expr::Num(1), Expr::Var(0))?;
-    let needed = bin(&rt, BinOp::OrElse, Expr::Num(0), quotient)?;
-    assert!(rt; run_of(&rt, Stmt::Out(needed), 1)?.0 == Some(Ending::Fault));
-    let flipped = Expr::Un(UnOp::Not, Boxed::new(rt.alloc(), Expr::Num(3))?);
-    let failed = block(&rt, Stmt::Out(Expr::Num(7)), Stmt::Assert(flipped))?;
-    let run = run_of(&rt, failed, 1)?;
+    let alloc = rt.alloc();
+    let quotient = bin(alloc, BinOp::Div, Expr::Num(1), Expr::Var(0))?;
+    let guarded = bin(alloc, BinOp::AndAlso, Expr::Num(0), quotient)?;
+    assert!(rt; run_of(&rt, alloc, Stmt::Out(guarded), 1)?.0.is_none());
+    let quotient = bin(alloc, BinOp::Div, Expr::Num(1), Expr::Var(0))?;
+    let needed = bin(alloc, BinOp::OrElse, Expr::Num(0), quotient)?;
+    assert!(rt; run_of(&rt, alloc, Stmt::Out(needed), 1)?.0 == Some(Ending::Fault));
+    let flipped = Expr::Un(UnOp::Not, Boxed::new(alloc, Expr::Num(3))?);
+    let failed = block(alloc, Stmt::Out(Expr::Num(7)), Stmt::Assert(flipped))?;
+    let run = run_of(&rt, alloc, failed, 1)?;
     assert!(rt; run.0 == Some(Ending::Assert));
     assert_eq!(rt; run.1, 1);
     Ok(())
