@@ -16,3 +16,7 @@ IsModel v f = IsTrue (list_all (is_clause_true v) f.clauses)
 -- the values of a list, in which the variable k stands at k - 1
 abbrev pub values_of : List Bool → ℕ → Bool
 values_of values k = slice_index_or values (k - 1) false
+
+-- no values make each clause of the formula true
+abbrev pub HasNoModel : Formula → Type 0
+HasNoModel f = (v : ℕ → Bool) → IsModel v f → ⊥

@@ -1,0 +1,10 @@
+//! A checker for logs of derived clauses, in the manner of LRAT: each line of a log names the
+//! clauses that its clause follows from by unit propagation. A formula with an accepted log has no
+//! model, and whoever made the log needs no trust.
+#![tactic(auto)]
+
+mod fault;
+mod log;
+
+pub use fault::{CheckError, LineWhy};
+pub use log::{Line, Log};
