@@ -4,7 +4,10 @@
 #![tactic(auto)]
 
 mod fault;
+mod law;
 mod log;
+mod marks;
 
 pub use fault::{CheckError, LineWhy};
+pub use law::accepted_has_no_model;
 pub use log::{Line, Log};

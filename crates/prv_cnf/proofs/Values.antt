@@ -8,7 +8,7 @@ use Rattle.prv_cnf.specs.declared.literal.Lit.{Lit}
 use Rattle.prv_cnf.specs.Literals.{variable, negate, signed_value, is_literal_true, same_literal, has_literal}
 
 -- literals of one number are one
-same_number : (a b : Lit) → a.0 ≡ b.0 → a ≡ b
+pub same_number : (a b : Lit) → a.0 ≡ b.0 → a ≡ b
 same_number a b e = let make : ℤ → Lit = λ z. record { 0 = z } in ap make e
 
 pub same_literal-eq : (a b : Lit) → same_literal a b ≡ true → a ≡ b
