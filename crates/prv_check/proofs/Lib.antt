@@ -1,2 +1,3 @@
 pub mod Refuting
 pub mod Marked
+pub mod Propagating

@@ -32,3 +32,10 @@ hints_fault trues [] = Some NoHints
 hints_fault trues (c ∷ []) = if list_all (is_false trues) c then None else Some NotFalse
 hints_fault trues (c ∷ (d ∷ cs)) =
     option_map_or (λ l. hints_fault (trues ++ l ∷ []) (d ∷ cs)) (unit_literal trues c) (Some NotUnit)
+
+-- the literals that are true after the hints, up to the first that has a fault
+abbrev pub trail_after : List Lit → List (List Lit) → List Lit
+trail_after trues [] = trues
+trail_after trues (c ∷ []) = trues
+trail_after trues (c ∷ (d ∷ cs)) =
+    option_map_or (λ l. trail_after (trues ++ l ∷ []) (d ∷ cs)) (unit_literal trues c) trues

@@ -4,9 +4,11 @@
 #![tactic(auto)]
 
 mod fault;
+mod known;
 mod law;
 mod log;
 mod marks;
+mod propagate;
 
 pub use fault::{CheckError, LineWhy};
 pub use law::accepted_has_no_model;
