@@ -1,3 +1,4 @@
 pub mod Refuting
 pub mod Marked
 pub mod Propagating
+pub mod Falsifying

@@ -1,6 +1,7 @@
 -- What a line of a log is tested for.
 use Rattle.std.specs.Prelude.{Option, None, Some, ◌≡◌, ℕ, Bool, not, ◌&&◌, true, false, List, [], ◌∷◌, ◌++◌, map, length, nat_lt, nat_le, slice_index_or, if◌then◌else◌}
 use Rattle.std.specs.List.{list_all, list_any}
+use Rattle.std.specs.Option.{option_or}
 use Rattle.prv_cnf.specs.declared.literal.Lit.{Lit}
 use Rattle.prv_cnf.specs.Literals.{variable, negate, has_literal}
 use Rattle.prv_cnf.specs.Formulas.{Formula}
@@ -39,15 +40,26 @@ is_empty (x ∷ xs) = false
 abbrev pub unless : Bool → LineWhy → Option LineWhy → Option LineWhy
 unless passed why next = if passed then next else Some why
 
--- the first test that a line fails, after the formula and the earlier lines
+-- the first test that the clause of a line fails by itself, over n variables
+abbrev pub clause_fault : ℕ → List Lit → Option LineWhy
+clause_fault n c =
+    unless (list_all (is_within n) c) BadLiteral
+    (unless (no_repeat c) Repeat
+    (unless (not (is_tautology c)) Tautology None))
+
+-- the first test that hints fail, where the clauses are known and the literals of `trues` are true
+abbrev pub derivation_fault : List Lit → List (List Lit) → List ℕ → Option LineWhy
+derivation_fault trues cs hints =
+    unless (not (is_empty hints)) NoHints
+    (unless (list_all (λ n. nat_lt n (length cs)) hints) BadHint
+    (hints_fault trues (clauses_at cs hints)))
+
+-- the first test that a line fails, after the formula and the earlier lines: those of its clause,
+-- then those of its hints, with each literal of the clause made false
 abbrev pub line_fault : Formula → List LogLine → LogLine → Option LineWhy
 line_fault f earlier s =
-    unless (list_all (is_within f.vars) s.clause) BadLiteral
-    (unless (no_repeat s.clause) Repeat
-    (unless (not (is_tautology s.clause)) Tautology
-    (unless (not (is_empty s.hints)) NoHints
-    (unless (list_all (λ n. nat_lt n (length (known f earlier))) s.hints) BadHint
-    (hints_fault (map negate s.clause) (clauses_at (known f earlier) s.hints))))))
+    option_or (clause_fault f.vars s.clause)
+    (derivation_fault (map negate s.clause) (known f earlier) s.hints)
 
 -- the line passes each test
 abbrev pub Follows : Formula → List LogLine → LogLine → Type 0

@@ -6,6 +6,7 @@
 mod fault;
 mod known;
 mod law;
+mod line;
 mod log;
 mod marks;
 mod propagate;

@@ -85,6 +85,16 @@ impl Marks {
         }
     }
 
+    /// Adds the literal's negation to the trail, which has room for it.
+    pub fn add_negation(&mut self, lit: Lit)
+        requires room { length self.old.trail < self.old.room }
+        requires within { variable lit ≤ self.old.vars }
+        ensures { self.new ≡ record self.old { trail = self.old.trail ++ negate lit ∷ [] } }
+    {
+        let _ = &self.vars;
+        self.add(lit.negated());
+    }
+
     /// Adds the literal to the trail, which may grow for it.
     pub fn try_add(&mut self, lit: Lit) -> Result<(), AllocError>
         ensures ok { OnOk result (self.new ≡ record self.old { trail = self.old.trail ++ lit ∷ [] }) }
