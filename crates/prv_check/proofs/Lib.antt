@@ -2,3 +2,4 @@ pub mod Refuting
 pub mod Marked
 pub mod Propagating
 pub mod Falsifying
+pub mod Ending

@@ -4,4 +4,5 @@ pub mod Places
 pub mod Marking
 pub mod Lines
 pub mod Logs
+pub mod Preparation
 pub mod Freshness

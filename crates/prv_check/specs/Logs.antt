@@ -4,6 +4,8 @@ use Rattle.std.specs.Option.{option_and_then}
 use Rattle.prv_cnf.specs.Formulas.{Formula}
 use Rattle.prv_check.specs.LogLines.{LogLine}
 use Rattle.prv_check.specs.Lines.{line_fault, is_empty}
+use Rattle.prv_check.specs.declared.fault.CheckError.{CheckError}
+use Rattle.prv_check.specs.declared.fault.CheckError.TheVariants.{Refused, Memory}
 use Rattle.prv_check.specs.declared.fault.LineWhy.{LineWhy}
 use Rattle.prv_check.specs.declared.fault.LineWhy.TheVariants.{NoEmpty}
 
@@ -34,3 +36,8 @@ abbrev pub IsRefused : Formula → List LogLine → ℕ → LineWhy → Type 0
 IsRefused f log k why =
     IsFirstFault (line_fault f) log k why
     ⊎ (IsFaultless (line_fault f) log × IsFalse (ends_empty log) × (k ≡ length log) × (why ≡ NoEmpty))
+
+-- why a log isn't accepted: it is refused, or memory ran out, which is tied to nothing
+abbrev pub IsCause : (ℕ → LineWhy → Type 0) → CheckError → Type 0
+IsCause refused (Refused k why) = refused k why
+IsCause refused Memory = ⊤

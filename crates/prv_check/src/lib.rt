@@ -3,6 +3,7 @@
 //! model, and whoever made the log needs no trust.
 #![tactic(auto)]
 
+mod checker;
 mod fault;
 mod known;
 mod law;
@@ -10,7 +11,10 @@ mod line;
 mod log;
 mod marks;
 mod propagate;
+mod work;
 
+pub use checker::check;
 pub use fault::{CheckError, LineWhy};
 pub use law::accepted_has_no_model;
 pub use log::{Line, Log};
+pub use work::{Work, check_line, prepare};
