@@ -5,4 +5,5 @@ pub mod Marking
 pub mod Lines
 pub mod Logs
 pub mod Preparation
+pub mod Indexing
 pub mod Freshness

@@ -1,6 +1,6 @@
 //! The test of a whole log.
 ghost use Rattle.std.specs.Prelude.{◌≡◌, ◌^◌, ◌+◌, ◌<◌, ◌≤◌, [], length, OnOk, IfErr};
-ghost use Rattle.std.specs.List.{AllByRecursion, All};
+ghost use Rattle.std.specs.List.{All};
 ghost use Rattle.prv_cnf.specs.Models.{HasNoModel};
 ghost use Rattle.prv_check.specs.Lines.{line_fault as fault_of};
 ghost use Rattle.prv_check.specs.Logs.{IsFaultless, IsFirstFault, IsAccepted, IsRefused, IsCause, ends_empty};
@@ -37,7 +37,6 @@ pub fn check(alloc: Global, cnf: &Cnf, log: &Log) -> Result<(), CheckError>
         });
     }
     accepted_has_no_model();
-    let _ = cnf.clauses();
     Ok(())
 }
 

@@ -1,7 +1,6 @@
 //! The clauses that a line may name by number: those of the formula, then those of the earlier lines.
-ghost use Rattle.std.specs.Prelude.{◌≡◌, ◌<◌, [], length, slice_index_or};
+ghost use Rattle.std.specs.Prelude.{◌≡◌, ◌<◌, [], length, slice_index_or, nat_lt};
 ghost use Rattle.std.specs.List.{list_all};
-ghost use Rattle.std.specs.Prelude.{nat_lt};
 ghost use Rattle.prv_check.specs.Lines.{known};
 
 use prv_cnf::{Cnf, Lit};
@@ -9,12 +8,11 @@ use prv_cnf::{Cnf, Lit};
 use crate::log::Line;
 
 /// The literals of the clause with this number.
-pub fn clause_at<'a>(cnf: &'a Cnf, earlier: &'a [Line], number: u32) -> &'a [Lit]
+pub fn clause_at<'a>(cnf: &'a Cnf, earlier: &'a [Line], number: usize) -> &'a [Lit]
     requires { number < length (known cnf.now earlier.now) }
     ensures { result.now ≡ slice_index_or (known cnf.now earlier.now) number [] }
 {
     let clauses = cnf.clauses();
-    let number = number as usize;
     if number < clauses.len() {
         clauses[number].lits()
     } else {

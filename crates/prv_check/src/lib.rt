@@ -5,6 +5,8 @@
 
 mod checker;
 mod fault;
+mod fresh;
+mod index;
 mod known;
 mod law;
 mod line;
@@ -15,6 +17,7 @@ mod work;
 
 pub use checker::check;
 pub use fault::{CheckError, LineWhy};
+pub use fresh::check_fresh;
 pub use law::accepted_has_no_model;
 pub use log::{Line, Log};
 pub use work::{Work, check_line, prepare};

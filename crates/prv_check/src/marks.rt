@@ -51,6 +51,13 @@ impl Marks {
         })
     }
 
+    /// The literals, in the order in which they were added.
+    pub fn trail(&self) -> &[Lit]
+        ensures { result.now ≡ self.now.trail }
+    {
+        self.trail.as_slice()
+    }
+
     /// Whether the literal is in the trail: by the table, or by a look through the trail where the
     /// table has no place for it.
     pub fn has(&self, lit: Lit) -> bool
@@ -103,6 +110,16 @@ impl Marks {
         self.trail.push(lit)?;
         if lit.variable() <= self.vars {
             self.table[place(lit)] = true;
+        }
+        Ok(())
+    }
+
+    /// Adds the literals to the trail, in order.
+    pub fn add_all(&mut self, lits: &[Lit]) -> Result<(), AllocError>
+        ensures { OnOk result (self.new ≡ record self.old { trail = self.old.trail ++ lits.now }) }
+    {
+        for lit in lits {
+            self.try_add(*lit)?;
         }
         Ok(())
     }

@@ -57,12 +57,12 @@ pub fn propagate(cnf: &Cnf, earlier: &[Line], hints: &[u32], marks: &mut Marks) 
         return Some(LineWhy::NoHints);
     };
     for hint in others {
-        match unit_of(marks, clause_at(cnf, earlier, *hint)) {
+        match unit_of(marks, clause_at(cnf, earlier, *hint as usize)) {
             None => return Some(LineWhy::NotUnit),
             Some(lit) => marks.add(lit),
         }
     }
-    if all_false(marks, clause_at(cnf, earlier, *last)) {
+    if all_false(marks, clause_at(cnf, earlier, *last as usize)) {
         None
     } else {
         Some(LineWhy::NotFalse)

@@ -76,6 +76,7 @@ impl Cnf {
     pub fn vars(&self) -> u32
         ensures value { result ≡ self.now.vars }
         ensures bound { result ≤ MAX_VARS }
+        ensures formula { IsFormula self.now }
     {
         self.vars
     }
