@@ -3,3 +3,6 @@ pub mod Marked
 pub mod Propagating
 pub mod Falsifying
 pub mod Ending
+pub mod Subsuming
+pub mod Leaning
+pub mod Passing

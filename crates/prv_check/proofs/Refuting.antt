@@ -3,7 +3,7 @@
 use Rattle.std.proofs.Common.{◌≡◌, ℕ, suc, zero, ◌+◌, ◌<◌, ◌≤◌, Bool, true, false, not, cond, ◌||◌, ◌&&◌, List, [], ◌∷◌, ◌++◌, map, length, take, get_or, Option, None, Some, IsTrue, refl, sym, ap, subst, ◌∙◌, arith}
 use Rattle.std.specs.Prelude.{slice_get, slice_index_or, nat_lt}
 use Rattle.std.specs.List.{list_any, list_all, filter, AllByRecursion}
-use Rattle.std.specs.Option.{option_map_or, option_and_then, option_or}
+use Rattle.std.specs.Option.{option_map_or, option_and_then}
 use Rattle.std.proofs.lemmas.Bool.{or_cases, and_parts, and_from, not-true, true_from_ne_false, ltb-true, lt-ltb}
 use Rattle.std.proofs.lemmas.Grind.{common_steps}
 use Rattle.std.proofs.lemmas.List.Folds.{list_all-append, list_all_at}
@@ -16,11 +16,12 @@ use Rattle.prv_cnf.specs.Literals.{variable, negate, is_literal_true, same_liter
 use Rattle.prv_cnf.specs.Formulas.{Formula, IsLiteral, IsFormula}
 use Rattle.prv_cnf.specs.Models.{is_clause_true, IsModel, HasNoModel}
 use Rattle.prv_cnf.proofs.Values.{same_literal-eq, is_literal_true-negate, all-has_literal}
+use Rattle.prv_check.proofs.Passing.{passes}
 use Rattle.prv_check.specs.declared.fault.LineWhy.{LineWhy}
-use Rattle.prv_check.specs.declared.fault.LineWhy.TheVariants.{BadLiteral, NoHints, BadHint, NotUnit}
+use Rattle.prv_check.specs.declared.fault.LineWhy.TheVariants.{NotUnit}
 use Rattle.prv_check.specs.LogLines.{LogLine}
 use Rattle.prv_check.specs.Propagation.{is_false, unfalsified, sole, unit_literal, hints_fault}
-use Rattle.prv_check.specs.Lines.{known, clauses_at, is_within, clause_fault, derivation_fault, line_fault, unless, is_empty}
+use Rattle.prv_check.specs.Lines.{known, clauses_at, is_within, line_fault, is_empty}
 use Rattle.prv_check.specs.Logs.{fault_at, IsFaultless, ends_empty, IsAccepted}
 
 -- no literal is 0
@@ -85,15 +86,6 @@ within_numbered : (n : ℕ) (c : List Lit) → list_all (is_within n) c ≡ true
 within_numbered n [] within = refl
 within_numbered n (l ∷ ls) within = grind (arith, within_numbered n ls)
 
--- a test that finds no fault was passed, and so were those after it
-unless_none : (b : Bool) (why : LineWhy) (next : Option LineWhy) → unless b why next ≡ None → (b ≡ true) × (next ≡ None)
-unless_none true why next h = (refl, h)
-unless_none false why next h = absurd cc
-
-or_none : (a b : Option LineWhy) → option_or a b ≡ None → (a ≡ None) × (b ≡ None)
-or_none None b h = (refl, h)
-or_none (Some why) b h = absurd cc
-
 -- the clauses that hints name are sound where all clauses are that they may name
 named_sound : (v : ℕ → Bool) (cs : List (List Lit)) (ns : List ℕ) → list_all (is_sound v) cs ≡ true → list_all (λ n. nat_lt n (length cs)) ns ≡ true → list_all (is_sound v) (clauses_at cs ns) ≡ true
 named_sound v cs [] sound within = refl
@@ -105,13 +97,10 @@ named_sound v cs (n ∷ ns) sound within =
 -- a line that follows is sound where the clauses are that it may name
 line_sound : (v : ℕ → Bool) (f : Formula) (earlier : List LogLine) (s : LogLine) → list_all (is_sound v) (known f earlier) ≡ true → line_fault f earlier s ≡ None → is_sound v s.clause ≡ true
 line_sound v f earlier s sound none =
-    let both = or_none (clause_fault f.vars s.clause) (derivation_fault (map negate s.clause) (known f earlier) s.hints) none in
-    let a = unless_none (list_all (is_within f.vars) s.clause) BadLiteral _ both.0 in
-    let d = unless_none (not (is_empty s.hints)) NoHints _ both.1 in
-    let e = unless_none (list_all (λ n. nat_lt n (length (known f earlier))) s.hints) BadHint _ d.1 in
-    let numbered : list_all is_numbered s.clause ≡ true = within_numbered f.vars s.clause a.0 in
+    let p = passes f earlier s none in
+    let numbered : list_all is_numbered s.clause ≡ true = within_numbered f.vars s.clause p.within in
     let fails : is_clause_true v s.clause ≡ false → ⊥ =
-      λ (x : is_clause_true v s.clause ≡ false). hints_conflict v (map negate s.clause) (clauses_at (known f earlier) s.hints) (negated_true v s.clause numbered x) (named_sound v (known f earlier) s.hints sound e.0) e.1 in
+      λ (x : is_clause_true v s.clause ≡ false). hints_conflict v (map negate s.clause) (clauses_at (known f earlier) s.hints) (negated_true v s.clause numbered x) (named_sound v (known f earlier) s.hints sound p.hints) p.conflict in
     and_from (is_clause_true v s.clause) (list_all is_numbered s.clause) (true_from_ne_false (is_clause_true v s.clause) fails) numbered
 
 numbered_clause : (n : ℕ) (c : List Lit) → AllByRecursion (IsLiteral n) c → list_all is_numbered c ≡ true

@@ -1,6 +1,6 @@
 -- Lines that add something: a fresh line contains no earlier clause, and uses each of its literals
 -- and hints.
-use Rattle.std.specs.Prelude.{Option, None, Some, ℕ, Bool, true, not, ◌&&◌, List, [], ◌∷◌, ◌++◌, map, IsTrue}
+use Rattle.std.specs.Prelude.{Option, None, Some, IfSome, slice_get, take, ℕ, Bool, true, not, ◌&&◌, List, [], ◌∷◌, ◌++◌, map, IsTrue}
 use Rattle.std.specs.List.{list_all, list_any}
 use Rattle.std.specs.Option.{option_map_or, option_or}
 use Rattle.prv_cnf.specs.declared.literal.Lit.{Lit}
@@ -31,6 +31,12 @@ units_used trues (c ∷ []) = true
 units_used trues (c ∷ (d ∷ cs)) =
     option_map_or (λ l. stands_in (d ∷ cs) (negate l) && units_used (trues ++ l ∷ []) (d ∷ cs)) (unit_literal trues c) true
 
+-- each of these literals, the first of the first clause and so on, has its negation in a later clause
+abbrev pub have_use : List Lit → List (List Lit) → Bool
+have_use [] cs = true
+have_use (u ∷ us) [] = true
+have_use (u ∷ us) (c ∷ cs) = stands_in cs (negate u) && have_use us cs
+
 -- a line is lean where each of its literals stands in one of its hints, and what the hints make true
 -- is used
 abbrev pub is_lean : Formula → List LogLine → LogLine → Bool
@@ -47,3 +53,7 @@ abbrev pub fresh_fault : Formula → List LogLine → LogLine → Option LineWhy
 fresh_fault f earlier s =
     option_or (line_fault f earlier s)
     (unless (is_new f earlier s) Contains (unless (is_lean f earlier s) Loose None))
+
+-- each line of the log is fresh
+abbrev pub AreFresh : Formula → List LogLine → Type 0
+AreFresh f log = (k : ℕ) → IfSome (slice_get log k) (IsFresh f (take k log))

@@ -41,7 +41,7 @@ pub fn check(alloc: Global, cnf: &Cnf, log: &Log) -> Result<(), CheckError>
 }
 
 /// The greatest count of literals and hints that a line has.
-fn longest(lines: &[Line]) -> usize
+pub fn longest(lines: &[Line]) -> usize
     ensures { All (λ s. length s.clause + length s.hints ≤ result) lines.now }
 {
     let mut most = 0;

@@ -4,9 +4,11 @@
 #![tactic(auto)]
 
 mod checker;
+mod containment;
 mod fault;
 mod fresh;
 mod index;
+mod lean;
 mod known;
 mod law;
 mod line;
