@@ -18,15 +18,16 @@ use Rattle.prv_check.specs.Lines.{is_within, no_repeat, is_tautology}
 same_literal_Decides : (a b : Lit) → Decides (same_literal a b) (a ≡ b)
 same_literal_Decides a b = (same_literal-eq a b, λ (e : a ≡ b). subst_same a b e)
   where
-  subst_same : (a b : Lit) → a ≡ b → same_literal a b ≡ true
-  subst_same a b e = (Decides-int_eq a.0 b.0).1 (ap (λ (l : Lit). l.0) e)
+    subst_same : (a b : Lit) → a ≡ b → same_literal a b ≡ true
+    subst_same a b e = (Decides-int_eq a.0 b.0).1 (ap (λ (l : Lit). l.0) e)
 
 -- two literals are the same where their negations are, and whichever comes first
 pub same_literal-negate : (a b : Lit) → same_literal (negate a) (negate b) ≡ same_literal a b
 same_literal-negate a b =
-    one_answer (same_literal (negate a) (negate b)) (same_literal a b)
-    (λ h. sym (negate-negate a) ∙ ap negate (same_literal-eq (negate a) (negate b) h) ∙ negate-negate b,
-     λ e. (same_literal_Decides (negate a) (negate b)).1 (ap negate e))
+    one_answer (same_literal (negate a) (negate b)) (same_literal a b) (
+      λ h. sym (negate-negate a) ∙ ap negate (same_literal-eq (negate a) (negate b) h) ∙ negate-negate b,
+      λ e. (same_literal_Decides (negate a) (negate b)).1 (ap negate e),
+    )
     (same_literal_Decides a b)
 
 pub same_literal_comm : (a b : Lit) → same_literal a b ≡ same_literal b a
@@ -47,23 +48,23 @@ no_repeat_push (x ∷ xs) l =
     rw (no_repeat_push xs l, list_any-append (same_literal x) xs (l ∷ []), same_literal_comm x l)
     (joined (list_any (same_literal x) xs) (same_literal l x) (no_repeat xs) (has_literal xs l))
   where
-  joined : (a b c d : Bool) → (not (a || (b || false)) && (c && not d)) ≡ ((not a && c) && not (b || d))
-  joined true true true true = refl
-  joined true true true false = refl
-  joined true true false true = refl
-  joined true true false false = refl
-  joined true false true true = refl
-  joined true false true false = refl
-  joined true false false true = refl
-  joined true false false false = refl
-  joined false true true true = refl
-  joined false true true false = refl
-  joined false true false true = refl
-  joined false true false false = refl
-  joined false false true true = refl
-  joined false false true false = refl
-  joined false false false true = refl
-  joined false false false false = refl
+    joined : (a b c d : Bool) → (not (a || (b || false)) && (c && not d)) ≡ ((not a && c) && not (b || d))
+    joined true true true true = refl
+    joined true true true false = refl
+    joined true true false true = refl
+    joined true true false false = refl
+    joined true false true true = refl
+    joined true false true false = refl
+    joined true false false true = refl
+    joined true false false false = refl
+    joined false true true true = refl
+    joined false true true false = refl
+    joined false true false true = refl
+    joined false true false false = refl
+    joined false false true true = refl
+    joined false false true false = refl
+    joined false false false true = refl
+    joined false false false false = refl
 
 any_same : (p q : Lit → Bool) → ((l : Lit) → p l ≡ q l) → (ls : List Lit) → list_any p ls ≡ list_any q ls
 any_same p q same [] = refl
@@ -74,7 +75,7 @@ pub tautology_by_negations : (c : List Lit) → list_any (has_literal (map negat
 tautology_by_negations c =
     any_same (has_literal (map negate c)) (λ l. has_literal c (negate l))
     (λ l. let P : Lit → Type 0 = λ x. has_literal (map negate c) x ≡ has_literal c (negate l) in
-      subst P (negate-negate l) (has_literal-negate c (negate l))) c
+    subst P (negate-negate l) (has_literal-negate c (negate l))) c
 
 -- a literal of a clause within n variables
 pub within_at : (n : ℕ) (c : List Lit) (i : ℕ) (d : Lit) → list_all (is_within n) c ≡ true → i < length c → variable (get_or c i d) ≤ n

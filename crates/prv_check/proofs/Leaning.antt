@@ -25,8 +25,8 @@ trail_is trues [] = sym (append-nil trues)
 trail_is trues (c ∷ []) = sym (append-nil trues)
 trail_is trues (c ∷ (d ∷ cs)) =
     elim (unit_literal trues c) as (λ o. option_map_or (λ l. trail_after (trues ++ l ∷ []) (d ∷ cs)) o trues ≡ trues ++ option_map_or (λ l. l ∷ units_of (trues ++ l ∷ []) (d ∷ cs)) o []) [
-      None ↦ sym (append-nil trues)
-    | Some l ↦ trail_is (trues ++ l ∷ []) (d ∷ cs) ∙ append_assoc trues (l ∷ []) (units_of (trues ++ l ∷ []) (d ∷ cs))
+      | None ↦ sym (append-nil trues)
+      | Some l ↦ trail_is (trues ++ l ∷ []) (d ∷ cs) ∙ append_assoc trues (l ∷ []) (units_of (trues ++ l ∷ []) (d ∷ cs))
     ]
 
 used_is : (trues : List Lit) (cs : List (List Lit)) → units_used trues cs ≡ have_use (units_of trues cs) cs
@@ -34,8 +34,8 @@ used_is trues [] = refl
 used_is trues (c ∷ []) = refl
 used_is trues (c ∷ (d ∷ cs)) =
     elim (unit_literal trues c) as (λ o. option_map_or (λ l. stands_in (d ∷ cs) (negate l) && units_used (trues ++ l ∷ []) (d ∷ cs)) o true ≡ have_use (option_map_or (λ l. l ∷ units_of (trues ++ l ∷ []) (d ∷ cs)) o []) (c ∷ (d ∷ cs))) [
-      None ↦ refl
-    | Some l ↦ rw (used_is (trues ++ l ∷ []) (d ∷ cs)) refl
+      | None ↦ refl
+      | Some l ↦ rw (used_is (trues ++ l ∷ []) (d ∷ cs)) refl
     ]
 
 -- the trail's part after those that it began with

@@ -32,11 +32,11 @@ or_false false h = h
 pub unmarked : (n : ℕ) (table : List Bool) (rest : List Lit) (l : Lit) → AreInTrail n table (rest ++ l ∷ []) → place_of l < length table → AreInTrail n (slice_set table (place_of l) false) rest
 unmarked n table rest l marked inside x within here =
     elim (cases_eq (place_of x) (place_of l)) [
-      inl same ↦ absurd (true≢false (sym here ∙ (rw same (get_or-set_same table (place_of l) false false inside))))
-    | inr other ↦ 
-        let before : slice_index_or table (place_of x) false ≡ true = sym (get_or-set_other table (place_of l) (place_of x) false false other) ∙ here in
-        elim (or_cases (has_literal rest x) (has_literal (l ∷ []) x) (sym (list_any-append (same_literal x) rest (l ∷ [])) ∙ marked x within before)) [
-          inl stays ↦ stays
-        | inr last ↦ absurd (other (ap place_of (same_literal-eq x l (or_false (same_literal x l) last))))
-        ]
+      | inl same ↦ absurd (true≢false (sym here ∙ (rw same (get_or-set_same table (place_of l) false false inside))))
+      | inr other ↦
+          let before : slice_index_or table (place_of x) false ≡ true = sym (get_or-set_other table (place_of l) (place_of x) false false other) ∙ here in
+          elim (or_cases (has_literal rest x) (has_literal (l ∷ []) x) (sym (list_any-append (same_literal x) rest (l ∷ [])) ∙ marked x within before)) [
+            | inl stays ↦ stays
+            | inr last ↦ absurd (other (ap place_of (same_literal-eq x l (or_false (same_literal x l) last))))
+          ]
     ]

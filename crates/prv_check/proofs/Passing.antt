@@ -50,9 +50,9 @@ fresh_parts f earlier s none =
 pub fresh_log : (f : Formula) (log : List LogLine) → IsFaultless (fresh_fault f) log → IsFaultless (line_fault f) log × AreFresh f log
 fresh_log f log faultless = ((λ k. (at_line k (slice_get log k) (faultless k)).0), (λ k. (at_line k (slice_get log k) (faultless k)).1))
   where
-  at_line : (k : ℕ) (o : Option LogLine) → option_and_then (λ s. fresh_fault f (take k log) s) o ≡ None → (option_and_then (λ s. line_fault f (take k log) s) o ≡ None) × IfSome o (IsFresh f (take k log))
-  at_line k None none = (refl, tt)
-  at_line k (Some s) none = fresh_parts f (take k log) s none
+    at_line : (k : ℕ) (o : Option LogLine) → option_and_then (λ s. fresh_fault f (take k log) s) o ≡ None → (option_and_then (λ s. line_fault f (take k log) s) o ≡ None) × IfSome o (IsFresh f (take k log))
+    at_line k None none = (refl, tt)
+    at_line k (Some s) none = fresh_parts f (take k log) s none
 
 -- what holds where there is no fault
 pub if_none : (o : Option LineWhy) (P : Type 0) → is_some o ≡ false → IfNone o P → P
@@ -66,6 +66,6 @@ faultless_more test log i s before here none = below_more _ _ before (rw here no
 pub faultless_all : (test : List LogLine → LogLine → Option LineWhy) (log : List LogLine) (i : ℕ) → length log ≤ i → ((j : ℕ) → j < i → fault_at test log j ≡ None) → IsFaultless test log
 faultless_all test log i past before k =
     elim (cases_lt k i) [
-      inl inside ↦ before k inside
-    | inr after ↦ rw (slice_get_past log k (omega arith)) refl
+      | inl inside ↦ before k inside
+      | inr after ↦ rw (slice_get_past log k (omega arith)) refl
     ]

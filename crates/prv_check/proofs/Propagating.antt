@@ -34,7 +34,7 @@ found_two trues xs i (Some l) d other inside here found answer differs =
     let P : List Lit → Type 0 = λ ls. sole (unfalsified trues ls) ≡ None in
     subst P (take-append-drop i xs)
     (rw (drop-cons xs i d inside, filter-append (λ l. not (is_false trues l)), here)
-      (sole_other (unfalsified trues (take i xs)) l (get_or xs i d) _ found (not-true (same_literal l (get_or xs i d)) (sym answer ∙ differs))))
+    (sole_other (unfalsified trues (take i xs)) l (get_or xs i d) _ found (not-true (same_literal l (get_or xs i d)) (sym answer ∙ differs))))
 
 -- the hints that are left, before the last
 abbrev pub left_at : List ℕ → ℕ → ℕ → List ℕ

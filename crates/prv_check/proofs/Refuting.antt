@@ -67,13 +67,13 @@ hints_conflict v trues [] all sound none = cc
 hints_conflict v trues (c ∷ []) all sound none = grind (arith, all_false v trues c)
 hints_conflict v trues (c ∷ (d ∷ cs)) all sound none =
     elim (unit_literal trues c) as (λ o. unit_literal trues c ≡ o → option_map_or (λ l. hints_fault (trues ++ l ∷ []) (d ∷ cs)) o (Some NotUnit) ≡ None → ⊥) [
-      None ↦ λ e h. cc
-    | Some l ↦ λ e h.
-        let parts : (is_sound v c ≡ true) × (list_all (is_sound v) (d ∷ cs) ≡ true) = and_parts (is_sound v c) (list_all (is_sound v) (d ∷ cs)) sound in
-        let here : (is_clause_true v c ≡ true) × (list_all is_numbered c ≡ true) = and_parts (is_clause_true v c) (list_all is_numbered c) parts.0 in
-        let holds : is_literal_true v l ≡ true = sole_true v (unfalsified trues c) l e (unfalsified_true v trues c all here.1 here.0) in
-        let more : list_all (is_literal_true v) (trues ++ l ∷ []) ≡ true = grind (arith, list_all-append (is_literal_true v) trues (l ∷ [])) in
-        hints_conflict v (trues ++ l ∷ []) (d ∷ cs) more parts.1 h
+      | None ↦ λ e h. cc
+      | Some l ↦ λ e h.
+          let parts : (is_sound v c ≡ true) × (list_all (is_sound v) (d ∷ cs) ≡ true) = and_parts (is_sound v c) (list_all (is_sound v) (d ∷ cs)) sound in
+          let here : (is_clause_true v c ≡ true) × (list_all is_numbered c ≡ true) = and_parts (is_clause_true v c) (list_all is_numbered c) parts.0 in
+          let holds : is_literal_true v l ≡ true = sole_true v (unfalsified trues c) l e (unfalsified_true v trues c all here.1 here.0) in
+          let more : list_all (is_literal_true v) (trues ++ l ∷ []) ≡ true = grind (arith, list_all-append (is_literal_true v) trues (l ∷ [])) in
+          hints_conflict v (trues ++ l ∷ []) (d ∷ cs) more parts.1 h
     ] refl none
 
 -- where a clause without 0 is not true, the negation of each of its literals is
@@ -100,7 +100,7 @@ line_sound v f earlier s sound none =
     let p = passes f earlier s none in
     let numbered : list_all is_numbered s.clause ≡ true = within_numbered f.vars s.clause p.within in
     let fails : is_clause_true v s.clause ≡ false → ⊥ =
-      λ (x : is_clause_true v s.clause ≡ false). hints_conflict v (map negate s.clause) (clauses_at (known f earlier) s.hints) (negated_true v s.clause numbered x) (named_sound v (known f earlier) s.hints sound p.hints) p.conflict in
+    λ (x : is_clause_true v s.clause ≡ false). hints_conflict v (map negate s.clause) (clauses_at (known f earlier) s.hints) (negated_true v s.clause numbered x) (named_sound v (known f earlier) s.hints sound p.hints) p.conflict in
     and_from (is_clause_true v s.clause) (list_all is_numbered s.clause) (true_from_ne_false (is_clause_true v s.clause) fails) numbered
 
 numbered_clause : (n : ℕ) (c : List Lit) → AllByRecursion (IsLiteral n) c → list_all is_numbered c ≡ true

@@ -22,8 +22,8 @@ any_more : {X : Type 0} (p q : X → Bool) → ((x : X) → p x ≡ true → q x
 any_more p q more [] here = here
 any_more p q more (x ∷ xs) here =
     elim (or_cases (p x) (list_any p xs) here) [
-      inl first ↦ or_left (q x) (list_any q xs) (more x first)
-    | inr later ↦ or_right (q x) (list_any q xs) (any_more p q more xs later)
+      | inl first ↦ or_left (q x) (list_any q xs) (more x first)
+      | inr later ↦ or_right (q x) (list_any q xs) (any_more p q more xs later)
     ]
 
 -- each clause contains the empty one
@@ -41,8 +41,8 @@ numbered_contained p cs [] within here = absurd cc
 numbered_contained p cs (n ∷ ns) within here =
     let parts : (nat_lt n (length cs) ≡ true) × (list_all (λ n. nat_lt n (length cs)) ns ≡ true) = and_parts (nat_lt n (length cs)) (list_all (λ n. nat_lt n (length cs)) ns) within in
     elim (or_cases (p (slice_index_or cs n [])) (list_any (λ n. p (slice_index_or cs n [])) ns) here) [
-      inl first ↦ list_any_at p cs n [] (ltb-true n (length cs) parts.0) first
-    | inr later ↦ numbered_contained p cs ns parts.1 later
+      | inl first ↦ list_any_at p cs n [] (ltb-true n (length cs) parts.0) first
+      | inr later ↦ numbered_contained p cs ns parts.1 later
     ]
 
 -- a clause with a literal, each of which stands in a clause within n variables
@@ -63,26 +63,26 @@ filled_at cs k none inside =
 nothing_at : (c : List Lit) (cs : List (List Lit)) (i : Listing) → IsIndex cs i → list_all (is_within i.vars) c ≡ true → i.has_empty ≡ false → ((j : ℕ) (d : Lit) → j < length c → list_any (λ n. contains_clause c (slice_index_or cs n [])) (slice_index_or i.lists (place_of (get_or c j d)) []) ≡ false) → (k : ℕ) → k < length cs → contains_clause c (slice_index_or cs k []) ≡ true → ⊥
 nothing_at c cs i index within filled none k inside contained =
     elim (index.complete k inside) [
-      inl unlisted ↦
-        true≢false (sym (first_within i.vars c (slice_index_or cs k []) (filled_at cs k (sym index.empties ∙ filled) inside) contained within) ∙ unlisted)
-    | inr (w, here, low, listed) ↦
-        let stands : has_literal c w ≡ true = all-has_literal (has_literal c) (slice_index_or cs k []) w contained here in
-        let (j, x, within_c, at_j, same) = Any-from_list_any (same_literal w) c stands in
-            let e : get_or c j x ≡ w = at_j ∙ sym (same_literal-eq w x same) in
-            let P : Lit → Type 0 = λ l. list_any (λ n. contains_clause c (slice_index_or cs n [])) (slice_index_or i.lists (place_of l) []) ≡ false in
-            let nowhere : P w = subst P e (none j x within_c) in
-            let Q : ℕ → Type 0 = λ n. contains_clause c (slice_index_or cs n []) ≡ true in
-            let found : list_any (λ n. contains_clause c (slice_index_or cs n [])) (slice_index_or i.lists (place_of w) []) ≡ true =
-              any_more (nat_eq k) (λ n. contains_clause c (slice_index_or cs n [])) (λ n same_number. subst Q (eqb-true k n same_number) contained) (slice_index_or i.lists (place_of w) []) listed in
-            true≢false (sym found ∙ nowhere)
+      | inl unlisted ↦
+          true≢false (sym (first_within i.vars c (slice_index_or cs k []) (filled_at cs k (sym index.empties ∙ filled) inside) contained within) ∙ unlisted)
+      | inr (w, here, low, listed) ↦
+          let stands : has_literal c w ≡ true = all-has_literal (has_literal c) (slice_index_or cs k []) w contained here in
+          let (j, x, within_c, at_j, same) = Any-from_list_any (same_literal w) c stands in
+          let e : get_or c j x ≡ w = at_j ∙ sym (same_literal-eq w x same) in
+          let P : Lit → Type 0 = λ l. list_any (λ n. contains_clause c (slice_index_or cs n [])) (slice_index_or i.lists (place_of l) []) ≡ false in
+          let nowhere : P w = subst P e (none j x within_c) in
+          let Q : ℕ → Type 0 = λ n. contains_clause c (slice_index_or cs n []) ≡ true in
+          let found : list_any (λ n. contains_clause c (slice_index_or cs n [])) (slice_index_or i.lists (place_of w) []) ≡ true =
+          any_more (nat_eq k) (λ n. contains_clause c (slice_index_or cs n [])) (λ n same_number. subst Q (eqb-true k n same_number) contained) (slice_index_or i.lists (place_of w) []) listed in
+          true≢false (sym found ∙ nowhere)
     ]
 
 pub nothing_contained : (c : List Lit) (cs : List (List Lit)) (i : Listing) → IsIndex cs i → list_all (is_within i.vars) c ≡ true → i.has_empty ≡ false → ((j : ℕ) (d : Lit) → j < length c → list_any (λ n. contains_clause c (slice_index_or cs n [])) (slice_index_or i.lists (place_of (get_or c j d)) []) ≡ false) → list_any (contains_clause c) cs ≡ false
 nothing_contained c cs i index within filled none =
     list_any_none (contains_clause c) cs
     (λ k d inside. let P : List Lit → Type 0 = λ x. contains_clause c x ≡ false in
-      subst P (get_or_default cs k [] d inside)
-      (false_from_ne_true (contains_clause c (slice_index_or cs k [])) (nothing_at c cs i index within filled none k inside)))
+    subst P (get_or_default cs k [] d inside)
+    (false_from_ne_true (contains_clause c (slice_index_or cs k [])) (nothing_at c cs i index within filled none k inside)))
 
 all_below_more : (m n : ℕ) → m ≤ n → (ns : List ℕ) → list_all (λ x. nat_lt x m) ns ≡ true → list_all (λ x. nat_lt x n) ns ≡ true
 all_below_more m n more [] below = refl
@@ -98,10 +98,10 @@ signed_place-le (negsuc k) = omega arith
 list_under : (w : Lit) (n : ℕ) (i : Listing) (p : ℕ) → length i.lists ≡ 2 * i.vars + 2 → variable w ≤ i.vars → ((slice_index_or (listed_under w n i) p [] ≡ slice_index_or i.lists p []) × (p ≢ place_of w)) ⊎ ((slice_index_or (listed_under w n i) p [] ≡ slice_index_or i.lists p [] ++ n ∷ []) × (p ≡ place_of w))
 list_under w n i p places low =
     elim (cases_eq p (place_of w)) [
-      inl same ↦ 
-        let room : place_of w < length i.lists = omega (arith, signed_place-le w.0) in
-        inr (rw same (get_or-set_same i.lists (place_of w) _ [] room), same)
-    | inr other ↦ inl (get_or-set_other i.lists (place_of w) p _ [] other, other)
+      | inl same ↦
+          let room : place_of w < length i.lists = omega (arith, signed_place-le w.0) in
+          inr (rw same (get_or-set_same i.lists (place_of w) _ [] room), same)
+      | inr other ↦ inl (get_or-set_other i.lists (place_of w) p _ [] other, other)
     ]
 
 numbers_more : (cs : List (List Lit)) (c : List Lit) (w : Lit) (old : Listing) (p : ℕ) → IsIndex cs old → variable w ≤ old.vars → list_all (λ n. nat_lt n (length (cs ++ c ∷ []))) (slice_index_or (listed_under w (length cs) old) p []) ≡ true
@@ -109,9 +109,9 @@ numbers_more cs c w old p index low =
     let kept : list_all (λ n. nat_lt n (length cs + 1)) (slice_index_or old.lists p []) ≡ true = all_below_more (length cs) (length cs + 1) (omega arith) (slice_index_or old.lists p []) (index.numbers p) in
     let here : nat_lt (length cs) (length cs + 1) ≡ true = lt-ltb (length cs) (length cs + 1) (omega arith) in
     elim (list_under w (length cs) old p index.places low) [
-      inl (e, other) ↦ rw (e, length-append) kept
-    | inr (e, same) ↦ rw (e, length-append, list_all-append)
-        (and_from (list_all (λ n. nat_lt n (length cs + 1)) (slice_index_or old.lists p [])) (nat_lt (length cs) (length cs + 1) && true) kept (and_from (nat_lt (length cs) (length cs + 1)) true here refl))
+      | inl (e, other) ↦ rw (e, length-append) kept
+      | inr (e, same) ↦ rw (e, length-append, list_all-append)
+          (and_from (list_all (λ n. nat_lt n (length cs + 1)) (slice_index_or old.lists p [])) (nat_lt (length cs) (length cs + 1) && true) kept (and_from (nat_lt (length cs) (length cs + 1)) true here refl))
     ]
 
 -- the clause d is listed with the number k under one of its literals, if one is of a variable
@@ -124,26 +124,36 @@ IsFound i d k =
 kept_under : (w : Lit) (n : ℕ) (i : Listing) (p k : ℕ) → length i.lists ≡ 2 * i.vars + 2 → variable w ≤ i.vars → list_any (nat_eq k) (slice_index_or i.lists p []) ≡ true → list_any (nat_eq k) (slice_index_or (listed_under w n i) p []) ≡ true
 kept_under w n i p k places low listed =
     elim (list_under w n i p places low) [
-      inl (e, other) ↦ rw e listed
-    | inr (e, same) ↦ rw (e, list_any-append) (or_left (list_any (nat_eq k) (slice_index_or i.lists p [])) (list_any (nat_eq k) (n ∷ [])) listed)
+      | inl (e, other) ↦ rw e listed
+      | inr (e, same) ↦ rw (e, list_any-append) (or_left (list_any (nat_eq k) (slice_index_or i.lists p [])) (list_any (nat_eq k) (n ∷ [])) listed)
     ]
 
 found_kept : (c d : List Lit) (n k : ℕ) (old new : Listing) → length old.lists ≡ 2 * old.vars + 2 → IsListed c n old new → IsFound old d k → IsFound new d k
 found_kept c d n k old new places listed (inl none) = inl (rw listed.0 none)
 found_kept c d n k old new places listed (inr (w, here, low, found)) =
-    inr (w, here, rw listed.0 low, elim listed.2 [
-      inl (u, has_u, low_u, lists) ↦ rw lists (kept_under u n old (place_of w) k places low_u found)
-    | inr (none, lists) ↦ rw lists found
-    ])
+    inr (
+      w,
+      here,
+      rw listed.0 low,
+      elim listed.2 [
+        | inl (u, has_u, low_u, lists) ↦ rw lists (kept_under u n old (place_of w) k places low_u found)
+        | inr (none, lists) ↦ rw lists found
+      ],
+    )
 
 found_here : (c : List Lit) (n : ℕ) (old new : Listing) → length old.lists ≡ 2 * old.vars + 2 → IsListed c n old new → IsFound new c n
 found_here c n old new places listed =
     elim listed.2 [
-      inl (w, here, low, lists) ↦
-        let room : place_of w < length old.lists = omega (arith, signed_place-le w.0) in
-        inr (w, here, rw listed.0 low, rw (lists, get_or-set_same old.lists (place_of w) _ [] room, list_any-append)
-          (or_right (list_any (nat_eq n) (slice_index_or old.lists (place_of w) [])) (list_any (nat_eq n) (n ∷ [])) (or_left (nat_eq n n) false (eq-eqb n n refl))))
-    | inr (none, lists) ↦ inl (rw listed.0 none)
+      | inl (w, here, low, lists) ↦
+          let room : place_of w < length old.lists = omega (arith, signed_place-le w.0) in
+          inr (
+            w,
+            here,
+            rw listed.0 low,
+            rw (lists, get_or-set_same old.lists (place_of w) _ [] room, list_any-append)
+                (or_right (list_any (nat_eq n) (slice_index_or old.lists (place_of w) [])) (list_any (nat_eq n) (n ∷ [])) (or_left (nat_eq n n) false (eq-eqb n n refl))),
+          )
+      | inr (none, lists) ↦ inl (rw listed.0 none)
     ]
 
 or_nothing : (a b : Bool) → (a || b) ≡ (a || (b || false))
@@ -155,31 +165,31 @@ or_nothing false false = refl
 pub index_more : (cs : List (List Lit)) (c : List Lit) (old new : Listing) → IsIndex cs old → IsListed c (length cs) old new → IsIndex (cs ++ c ∷ []) new
 index_more cs c old new index listed = record {
   places = elim listed.2 [
-    inl (w, here, low, lists) ↦ rw (listed.0, lists, length-set) index.places
-  | inr (none, lists) ↦ rw (listed.0, lists) index.places
+    | inl (w, here, low, lists) ↦ rw (listed.0, lists, length-set) index.places
+    | inr (none, lists) ↦ rw (listed.0, lists) index.places
   ];
   empties = rw (listed.1, index.empties, list_any-append) (or_nothing (list_any (λ d. is_empty d) cs) (is_empty c));
   numbers = λ p. elim listed.2 [
-    inl (w, here, low, lists) ↦ rw lists (numbers_more cs c w old p index low)
-  | inr (none, lists) ↦ rw (lists, length-append) (all_below_more (length cs) (length cs + 1) (omega arith) (slice_index_or old.lists p []) (index.numbers p))
+    | inl (w, here, low, lists) ↦ rw lists (numbers_more cs c w old p index low)
+    | inr (none, lists) ↦ rw (lists, length-append) (all_below_more (length cs) (length cs + 1) (omega arith) (slice_index_or old.lists p []) (index.numbers p))
   ];
   complete = λ k inside.
-    let P : List Lit → Type 0 = λ d. IsFound new d k in
-    elim (cases_lt k (length cs)) [
-      inl before ↦ subst P (sym (get_or-append cs (c ∷ []) [] k before)) (found_kept c (slice_index_or cs k []) (length cs) k old new index.places listed (index.complete k before))
-    | inr after ↦
-        let e : length cs ≡ k = omega (arith, length-append cs (c ∷ [])) in
-        let Q : ℕ → Type 0 = λ n. IsFound new (slice_index_or (cs ++ c ∷ []) n []) n in
-        let R : List Lit → Type 0 = λ d. IsFound new d (length cs) in
-        subst Q e (subst R (sym (get_or-append_seam cs c [] [])) (found_here c (length cs) old new index.places listed))
-    ];
+      let P : List Lit → Type 0 = λ d. IsFound new d k in
+      elim (cases_lt k (length cs)) [
+        | inl before ↦ subst P (sym (get_or-append cs (c ∷ []) [] k before)) (found_kept c (slice_index_or cs k []) (length cs) k old new index.places listed (index.complete k before))
+        | inr after ↦
+            let e : length cs ≡ k = omega (arith, length-append cs (c ∷ [])) in
+            let Q : ℕ → Type 0 = λ n. IsFound new (slice_index_or (cs ++ c ∷ []) n []) n in
+            let R : List Lit → Type 0 = λ d. IsFound new d (length cs) in
+            subst Q e (subst R (sym (get_or-append_seam cs c [] [])) (found_here c (length cs) old new index.places listed))
+      ];
 }
 
 nothing_listed : (n p : ℕ) → get_or {A = List ℕ} (replicate n []) p [] ≡ []
 nothing_listed n p =
     elim (cases_lt p n) [
-      inl inside ↦ get_or-replicate n p [] [] inside
-    | inr past ↦ get_or-eq_default (replicate n []) [] (rw length-replicate past)
+      | inl inside ↦ get_or-replicate n p [] [] inside
+      | inr past ↦ get_or-eq_default (replicate n []) [] (rw length-replicate past)
     ]
 
 -- no clauses

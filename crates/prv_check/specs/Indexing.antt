@@ -23,7 +23,7 @@ IsListed c n old new =
     (new.vars ≡ old.vars)
     × (new.has_empty ≡ (old.has_empty || is_empty c))
     × (((w : Lit) × (has_literal c w ≡ true) × (variable w ≤ old.vars) × (new.lists ≡ listed_under w n old))
-      ⊎ ((list_any (λ l. nat_le (variable l) old.vars) c ≡ false) × (new.lists ≡ old.lists)))
+    ⊎ ((list_any (λ l. nat_le (variable l) old.vars) c ≡ false) × (new.lists ≡ old.lists)))
 
 -- the listing is one of these clauses, by their places: it has each number only where a clause has
 -- it, and lists each clause under one of its literals, if one is of a variable
@@ -32,5 +32,5 @@ pub record IsIndex (cs : List (List Lit)) (i : Listing) : Type 0 where
   pub empties : i.has_empty ≡ list_any is_empty cs
   pub numbers : (p : ℕ) → list_all (λ n. nat_lt n (length cs)) (slice_index_or i.lists p []) ≡ true
   pub complete : (k : ℕ) → k < length cs →
-    (list_any (λ l. nat_le (variable l) i.vars) (slice_index_or cs k []) ≡ false)
-    ⊎ ((w : Lit) × (has_literal (slice_index_or cs k []) w ≡ true) × (variable w ≤ i.vars) × (list_any (nat_eq k) (slice_index_or i.lists (place_of w) []) ≡ true))
+      (list_any (λ l. nat_le (variable l) i.vars) (slice_index_or cs k []) ≡ false)
+      ⊎ ((w : Lit) × (has_literal (slice_index_or cs k []) w ≡ true) × (variable w ≤ i.vars) × (list_any (nat_eq k) (slice_index_or i.lists (place_of w) []) ≡ true))

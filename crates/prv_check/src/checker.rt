@@ -5,15 +5,13 @@ ghost use Rattle.prv_cnf.specs.Models.{HasNoModel};
 ghost use Rattle.prv_check.specs.Lines.{line_fault as fault_of};
 ghost use Rattle.prv_check.specs.Logs.{IsFaultless, IsFirstFault, IsAccepted, IsRefused, IsCause, ends_empty};
 
-use std::alloc::Global;
-
-use prv_cnf::Cnf;
-
 use crate::fault::{CheckError, LineWhy};
 use crate::law::accepted_has_no_model;
 use crate::line::line_fault;
 use crate::log::{Line, Log};
 use crate::marks::Marks;
+use prv_cnf::Cnf;
+use std::alloc::Global;
 
 /// Tests a log: it is accepted where each line follows from the formula and the lines before it, and
 /// the last is the empty clause. Then the formula has no model. Else the first bad line is told with

@@ -6,14 +6,12 @@ ghost use Rattle.prv_check.specs.Lines.{known, is_within};
 ghost use Rattle.prv_check.specs.Indexing.{IsIndex};
 ghost use Rattle.prv_check.specs.Freshness.{contains_clause};
 
-use std::alloc::{AllocError, Global};
-
-use prv_cnf::{Cnf, Lit};
-
 use crate::index::Index;
 use crate::known::clause_at;
 use crate::log::Line;
 use crate::marks::Marks;
+use prv_cnf::{Cnf, Lit};
+use std::alloc::{AllocError, Global};
 
 /// The index of a formula's clauses.
 pub fn index_of(alloc: Global, cnf: &Cnf) -> Result<Index, AllocError>
@@ -28,7 +26,13 @@ pub fn index_of(alloc: Global, cnf: &Cnf) -> Result<Index, AllocError>
 }
 
 /// Whether the clause, whose literals are marked, contains a clause before it.
-pub fn contains_known(cnf: &Cnf, earlier: &[Line], lits: &[Lit], index: &Index, marked: &Marks) -> bool
+pub fn contains_known(
+    cnf: &Cnf,
+    earlier: &[Line],
+    lits: &[Lit],
+    index: &Index,
+    marked: &Marks,
+) -> bool
     requires index { IsIndex (known cnf.now earlier.now) index.now }
     requires within { IsTrue (list_all (is_within index.now.vars) lits.now) }
     requires marked { marked.now.trail ≡ lits.now }

@@ -1,5 +1,4 @@
 use std::alloc::AllocError;
-
 use thiserror::Error;
 
 /// What is wrong with a line, in the order of the tests: the first that fails is told.
@@ -38,7 +37,7 @@ pub enum LineWhy {
 }
 
 /// Why a log is not accepted.
-#[derive(Debug, Drop, Error)]
+#[derive(Clone, Copy, Debug, PartialEq, Eq, Error)]
 pub enum CheckError {
     /// The first bad line, from 0, and the first test that it fails. For [`LineWhy::NoEmpty`] it is
     /// the count of lines.

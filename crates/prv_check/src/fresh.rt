@@ -6,19 +6,17 @@ ghost use Rattle.prv_check.specs.Logs.{IsFaultless, IsFirstFault, IsCause};
 ghost use Rattle.prv_check.specs.Indexing.{IsIndex};
 ghost use Rattle.prv_check.specs.Freshness.{is_new, fresh_fault, AreFresh};
 
-use std::alloc::{AllocError, Global};
-
-use prv_cnf::Cnf;
-
 use crate::checker::longest;
 use crate::containment::{contains_known, index_of};
 use crate::fault::{CheckError, LineWhy};
 use crate::index::Index;
-use crate::lean::is_lean;
 use crate::known::known_count;
+use crate::lean::is_lean;
 use crate::line::line_fault;
 use crate::log::{Line, Log};
 use crate::marks::Marks;
+use prv_cnf::Cnf;
+use std::alloc::{AllocError, Global};
 
 /// Tests that each line of a log follows and is fresh: it isn't empty, contains no clause of the
 /// formula and no earlier line, and uses each of its literals and of its hints. Else the first bad
@@ -43,7 +41,13 @@ pub fn check_fresh(alloc: Global, cnf: &Cnf, log: &Log) -> Result<(), CheckError
 }
 
 /// Tests each line, up to the first that has a fault, and adds each to the index.
-fn fresh_lines(cnf: &Cnf, lines: &[Line], index: &mut Index, marks: &mut Marks, seen: &mut Marks) -> Result<(), CheckError>
+fn fresh_lines(
+    cnf: &Cnf,
+    lines: &[Line],
+    index: &mut Index,
+    marks: &mut Marks,
+    seen: &mut Marks,
+) -> Result<(), CheckError>
     requires short { length lines.now < 2 ^ 32 }
     requires index { IsIndex (known cnf.now []) index.old }
     requires index_vars { index.old.vars ≡ cnf.now.vars }
@@ -79,7 +83,14 @@ fn index_line(cnf: &Cnf, earlier: &[Line], line: &Line, index: &mut Index) -> Re
 }
 
 /// The first test that a line fails which is to follow and to be fresh.
-fn fresh_fault(cnf: &Cnf, earlier: &[Line], line: &Line, index: &Index, marks: &mut Marks, seen: &mut Marks) -> Result<Option<LineWhy>, AllocError>
+fn fresh_fault(
+    cnf: &Cnf,
+    earlier: &[Line],
+    line: &Line,
+    index: &Index,
+    marks: &mut Marks,
+    seen: &mut Marks,
+) -> Result<Option<LineWhy>, AllocError>
     requires index { IsIndex (known cnf.now earlier.now) index.now }
     requires index_vars { index.now.vars ≡ cnf.now.vars }
     requires clean { marks.old.trail ≡ [] }
@@ -104,7 +115,13 @@ fn fresh_fault(cnf: &Cnf, earlier: &[Line], line: &Line, index: &Index, marks: &
 }
 
 /// Whether a line isn't empty and contains no clause before it.
-fn is_new(cnf: &Cnf, earlier: &[Line], line: &Line, index: &Index, seen: &mut Marks) -> Result<bool, AllocError>
+fn is_new(
+    cnf: &Cnf,
+    earlier: &[Line],
+    line: &Line,
+    index: &Index,
+    seen: &mut Marks,
+) -> Result<bool, AllocError>
     requires index { IsIndex (known cnf.now earlier.now) index.now }
     requires within { IsTrue (list_all (is_within index.now.vars) line.now.clause) }
     requires clean { seen.old.trail ≡ [] }

@@ -8,13 +8,11 @@ ghost use Rattle.std.specs.List.{list_any};
 ghost use Rattle.prv_cnf.specs.Literals.{variable, has_literal};
 ghost use Rattle.prv_check.specs.Places.{place_of};
 
-use std::alloc::{AllocError, Global};
-use std::marker::Model;
-
+use crate::marks::place;
 use prv_cnf::{Lit, MAX_VARS};
 use sqlite_items::Items;
-
-use crate::marks::place;
+use std::alloc::{AllocError, Global};
+use std::marker::Model;
 
 /// The numbers of clauses, listed by literal.
 #[derive(Debug, Drop)]

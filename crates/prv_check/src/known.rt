@@ -3,9 +3,8 @@ ghost use Rattle.std.specs.Prelude.{◌≡◌, ◌<◌, [], length, slice_index_
 ghost use Rattle.std.specs.List.{list_all};
 ghost use Rattle.prv_check.specs.Lines.{known};
 
-use prv_cnf::{Cnf, Lit};
-
 use crate::log::Line;
+use prv_cnf::{Cnf, Lit};
 
 /// The literals of the clause with this number.
 pub fn clause_at<'a>(cnf: &'a Cnf, earlier: &'a [Line], number: usize) -> &'a [Lit]

@@ -9,5 +9,4 @@ ghost use Rattle.prv_check.specs.Logs.{IsAccepted};
 /// has nothing to run.
 pub fn accepted_has_no_model()
     ensures { (f : Formula) (log : List LogLine) → IsFormula f → IsAccepted f log → HasNoModel f }
-{
-}
+{}

@@ -8,19 +8,23 @@ ghost use Rattle.prv_check.specs.Propagation.{is_false, hints_fault, trail_after
 ghost use Rattle.prv_check.specs.Lines.{known, clauses_at};
 ghost use Rattle.prv_check.specs.Freshness.{stands_in, have_use, is_lean};
 
-use std::alloc::AllocError;
-
-use prv_cnf::{Cnf, Lit};
-
 use crate::containment::are_marked;
 use crate::known::clause_at;
 use crate::log::Line;
 use crate::marks::Marks;
+use prv_cnf::{Cnf, Lit};
+use std::alloc::AllocError;
 
 /// Whether each literal of a line that follows stands in one of its hints, and each literal that a
 /// hint before the last made true has its negation in a later hint. The trail is that after the test
 /// of the line, and `seen` is clean before and after.
-pub fn is_lean(cnf: &Cnf, earlier: &[Line], line: &Line, marks: &Marks, seen: &mut Marks) -> Result<bool, AllocError>
+pub fn is_lean(
+    cnf: &Cnf,
+    earlier: &[Line],
+    line: &Line,
+    marks: &Marks,
+    seen: &mut Marks,
+) -> Result<bool, AllocError>
     requires known { IsTrue (list_all (λ n. nat_lt n (length (known cnf.now earlier.now))) line.now.hints) }
     requires follows { hints_fault (map negate line.now.clause) (clauses_at (known cnf.now earlier.now) line.now.hints) ≡ None }
     requires trail { marks.now.trail ≡ trail_after (map negate line.now.clause) (clauses_at (known cnf.now earlier.now) line.now.hints) }
@@ -39,7 +43,13 @@ pub fn is_lean(cnf: &Cnf, earlier: &[Line], line: &Line, marks: &Marks, seen: &m
 
 /// Whether each of the literals, that the hints made true in turn, has its negation in a later hint.
 /// Then all literals of the hints are seen.
-fn have_use(cnf: &Cnf, earlier: &[Line], hints: &[u32], units: &[Lit], seen: &mut Marks) -> Result<bool, AllocError>
+fn have_use(
+    cnf: &Cnf,
+    earlier: &[Line],
+    hints: &[u32],
+    units: &[Lit],
+    seen: &mut Marks,
+) -> Result<bool, AllocError>
     requires known { IsTrue (list_all (λ n. nat_lt n (length (known cnf.now earlier.now))) hints.now) }
     requires clean { seen.old.trail ≡ [] }
     ensures used { IfOk result (λ yes. yes ≡ have_use units.now (clauses_at (known cnf.now earlier.now) hints.now)) }

@@ -8,13 +8,15 @@ mod containment;
 mod fault;
 mod fresh;
 mod index;
-mod lean;
 mod known;
 mod law;
+mod lean;
 mod line;
 mod log;
 mod marks;
 mod propagate;
+#[cfg(test)]
+mod tests;
 mod work;
 
 pub use checker::check;

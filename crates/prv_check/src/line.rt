@@ -5,13 +5,12 @@ ghost use Rattle.prv_cnf.specs.Literals.{negate, has_literal};
 ghost use Rattle.prv_check.specs.Propagation.{trail_after};
 ghost use Rattle.prv_check.specs.Lines.{known, clauses_at, is_within, no_repeat, is_tautology, clause_fault, derivation_fault, line_fault};
 
-use prv_cnf::{Cnf, Lit};
-
 use crate::fault::LineWhy;
 use crate::known::{all_below, known_count};
 use crate::log::Line;
 use crate::marks::Marks;
 use crate::propagate::propagate;
+use prv_cnf::{Cnf, Lit};
 
 /// The first test that a line fails after the earlier lines. Without a fault the trail then has the
 /// negations of the line's literals and what its hints made true, in this order.
@@ -53,7 +52,12 @@ fn clause_fault(vars: u32, lits: &[Lit], marks: &mut Marks) -> Option<LineWhy>
 }
 
 /// The first test that hints fail.
-fn derivation_fault(cnf: &Cnf, earlier: &[Line], hints: &[u32], marks: &mut Marks) -> Option<LineWhy>
+fn derivation_fault(
+    cnf: &Cnf,
+    earlier: &[Line],
+    hints: &[u32],
+    marks: &mut Marks,
+) -> Option<LineWhy>
     requires room { length marks.old.trail + length hints.now ≤ marks.old.room }
     ensures fault { result ≡ derivation_fault marks.old.trail (known cnf.now earlier.now) hints.now }
     ensures trail { IfNone result (marks.new.trail ≡ trail_after marks.old.trail (clauses_at (known cnf.now earlier.now) hints.now)) }

@@ -1,9 +1,8 @@
 ghost use Rattle.std.specs.Prelude.{◌≡◌, ◌++◌, ◌∷◌, [], OnOk, OnErr};
 
+use prv_cnf::Clause;
 use std::alloc::AllocError;
 use std::marker::Model;
-
-use prv_cnf::Clause;
 
 /// A line of a log: a clause, and the numbers of the earlier clauses that it follows from.
 ///

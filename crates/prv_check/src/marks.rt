@@ -6,10 +6,9 @@ ghost use Rattle.prv_cnf.specs.Literals.{variable, negate, same_literal, has_lit
 ghost use Rattle.prv_check.specs.Propagation.{is_false};
 ghost use Rattle.prv_check.specs.Places.{place_of};
 
+use prv_cnf::{Lit, MAX_VARS};
 use std::alloc::{AllocError, Global};
 use std::marker::Model;
-
-use prv_cnf::{Lit, MAX_VARS};
 
 /// A set of literals, as a trail and a table of marks.
 #[derive(Debug, Drop)]

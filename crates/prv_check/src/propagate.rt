@@ -6,12 +6,11 @@ ghost use Rattle.prv_cnf.specs.Literals.{same_literal};
 ghost use Rattle.prv_check.specs.Propagation.{is_false, unit_literal, hints_fault, trail_after};
 ghost use Rattle.prv_check.specs.Lines.{known, clauses_at};
 
-use prv_cnf::{Cnf, Lit};
-
 use crate::fault::LineWhy;
 use crate::known::clause_at;
 use crate::log::Line;
 use crate::marks::Marks;
+use prv_cnf::{Cnf, Lit};
 
 /// The one literal of a clause that isn't false, if there is one.
 pub fn unit_of(marks: &Marks, lits: &[Lit]) -> Option<Lit>

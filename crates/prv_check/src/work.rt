@@ -5,15 +5,13 @@ ghost use Rattle.prv_check.specs.LogLines.{line_numbers};
 ghost use Rattle.prv_check.specs.Lines.{line_fault as fault_of};
 ghost use Rattle.prv_check.specs.Logs.{fault_at};
 
-use std::alloc::{AllocError, Global};
-use std::marker::Model;
-
-use prv_cnf::Cnf;
-
 use crate::fault::LineWhy;
 use crate::line::line_fault;
 use crate::log::Log;
 use crate::marks::Marks;
+use prv_cnf::Cnf;
+use std::alloc::{AllocError, Global};
+use std::marker::Model;
 
 /// Room to test lines in, made by [`prepare`].
 #[derive(Debug, Drop)]

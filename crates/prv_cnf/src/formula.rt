@@ -1,5 +1,6 @@
 ghost use Rattle.std.specs.Prelude.{◌≡◌, ◌+◌, ◌<◌, ◌≤◌, ◌↔◌, ◌++◌, ◌∷◌, [], length, IsTrue, OnOk, OnErr};
 ghost use Rattle.std.specs.List.{AllByRecursion, list_all};
+ghost use Rattle.prv_cnf.specs.Formulas.{IsLiteral};
 ghost use Rattle.prv_cnf.specs.Models.{IsModel, is_clause_true, values_of};
 
 use crate::clauses::Clause;
@@ -53,6 +54,13 @@ impl Cnf {
         self.vars
     }
 
+    /// Whether each literal is of one of the variables, so that they may be added as a clause.
+    pub fn accepts(&self, lits: &[Lit]) -> bool
+        ensures { IsTrue result ↔ AllByRecursion (IsLiteral self.now.vars) lits.now }
+    {
+        all_within(self.vars, lits)
+    }
+
     /// Adds a clause at the end. Want of memory leaves the formula as it was.
     pub fn push_clause(&mut self, lits: &[Lit]) -> Result<(), AllocError>
         requires { AllByRecursion (IsLiteral self.old.vars) lits.now }
@@ -95,4 +103,12 @@ fn all_true(clauses: &[Clause], values: &[bool]) -> bool
     ensures { result ≡ list_all (is_clause_true (values_of values.now)) clauses.now }
 {
     clauses.iter().all(|clause| clause.is_true(values))
+}
+
+/// Whether each literal is of one of the first so many variables.
+fn all_within(vars: u32, lits: &[Lit]) -> bool
+    ensures { IsTrue result ↔ AllByRecursion (IsLiteral vars) lits.now }
+{
+    lits.iter()
+        .all(|lit| lit.variable() > 0 && lit.variable() <= vars)
 }

@@ -12,7 +12,7 @@ pub returns-then-has_empty : goal.returns-then-has_empty
 returns-then-has_empty c =
     sym
     (empty_contained c.args.lits.now (known c.args.cnf.now c.args.earlier.now) c.args.index.now c.requires.index
-      (sym c.has_empty.ensures ∙ c.if-has_empty.true))
+    (sym c.has_empty.ensures ∙ c.if-has_empty.true))
 
 pub returns-then-some_covered : goal.returns-then-some_covered
 returns-then-some_covered c =
@@ -29,5 +29,5 @@ pub returns : goal.returns
 returns c =
     sym
     (nothing_contained c.args.lits.now (known c.args.cnf.now c.args.earlier.now) c.args.index.now c.requires.index
-      c.requires.within (sym c.has_empty.ensures ∙ c.if-has_empty.false)
-      (λ j d inside. c.loop-lit.invariant j d (omega arith)))
+    c.requires.within (sym c.has_empty.ensures ∙ c.if-has_empty.false)
+    (λ j d inside. c.loop-lit.invariant j d (omega arith)))

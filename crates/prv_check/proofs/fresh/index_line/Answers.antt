@@ -13,6 +13,6 @@ returns-clause-index c =
     let P : List Lit → Type 0 = λ x. IsListed x c.known_count.result c.args.index.now c.add.new.self in
     let Q : ℕ → Type 0 = λ n. IsListed clause n c.args.index.now c.add.new.self in
     let listed : IsListed clause (length cs) c.args.index.now c.add.new.self =
-      subst Q c.known_count.ensures (subst P (c.lits.ensures ∙ c.clause.ensures) c.in_ok-add.ensures.ok) in
+    subst Q c.known_count.ensures (subst P (c.lits.ensures ∙ c.clause.ensures) c.in_ok-add.ensures.ok) in
     let R : List (List Lit) → Type 0 = λ ds. IsIndex ds c.add.new.self in
     subst R (sym (known_more c.args.cnf.now c.args.earlier.now c.args.line.now)) (index_more cs clause c.args.index.now c.add.new.self c.requires listed)

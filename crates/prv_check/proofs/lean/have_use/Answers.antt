@@ -32,13 +32,13 @@ loop-at-preserved c =
     let seen = c.loop-at.invariant.2 in
     let same = same_or_true (is_false c.loop-at.seen.trail) (λ u. stands_in (drop c.loop-at.at cs) (negate u)) (λ u. seen (negate u)) (slice_get c.args.units.now n) in
     let used : c.if-used.used ≡ have_use (drop n c.args.units.now) (drop n cs) =
-      elim c.if-used.branch [ then-used w ↦ grind (arith, step, same) | else-used w ↦ grind (arith, step, same) ] in
+    elim c.if-used.branch [ then-used w ↦ grind (arith, step, same) | else-used w ↦ grind (arith, step, same) ] in
     let hint : get_or cs n [] ≡ slice_index_or (known c.args.cnf.now c.args.earlier.now) (get_or c.args.hints.now n 0) [] = get_or-map (λ (k : ℕ). slice_index_or (known c.args.cnf.now c.args.earlier.now) k []) c.args.hints.now n 0 [] at_hint in
     let clause : c.clause_at.result.now ≡ get_or cs n [] = c.clause_at.ensures ∙ sym hint in
     let trail : c.add_all.new.self.trail ≡ c.loop-at.seen.trail ++ c.clause_at.result.now = ap (λ (m : Marking). m.trail) c.in_ok-add_all.ensures in
     let now_seen : (x : Lit) → has_literal c.add_all.new.self.trail x ≡ stands_in (drop n cs) x = λ x.
-      ap (λ (t : List Lit). has_literal t x) trail
-      ∙ list_any-append (same_literal x) c.loop-at.seen.trail c.clause_at.result.now
-      ∙ or_swapped (has_literal c.loop-at.seen.trail x) (stands_in (drop c.loop-at.at cs) x) (has_literal c.clause_at.result.now x) (has_literal (get_or cs n []) x) (seen x) (ap (λ (t : List Lit). has_literal t x) clause)
-      ∙ sym (stands x) in
+    ap (λ (t : List Lit). has_literal t x) trail
+    ∙ list_any-append (same_literal x) c.loop-at.seen.trail c.clause_at.result.now
+    ∙ or_swapped (has_literal c.loop-at.seen.trail x) (stands_in (drop c.loop-at.at cs) x) (has_literal c.clause_at.result.now x) (has_literal (get_or cs n []) x) (seen x) (ap (λ (t : List Lit). has_literal t x) clause)
+    ∙ sym (stands x) in
     (omega arith, used, now_seen, grind arith, grind arith)

@@ -17,14 +17,14 @@ returns-then-stand-clause-lean c =
     let P : List ℕ → Type 0 = λ hs. (x : Lit) → has_literal c.have_use.new.seen.trail x ≡ stands_in (clauses_at (known c.args.cnf.now c.args.earlier.now) hs) x in
     let seen : P c.args.line.now.hints = subst P c.hints.ensures c.in_ok-used.ensures.seen in
     let stand : list_all (stands_in cs) lits ≡ true =
-      sym (all_same (has_literal c.have_use.new.seen.trail) (stands_in cs) seen lits)
-      ∙ sym (ap (λ (ls : List Lit). list_all (has_literal c.have_use.new.seen.trail) ls) lits_are)
-      ∙ sym c.are_marked-stand.ensures ∙ c.if-stand.true in
+    sym (all_same (has_literal c.have_use.new.seen.trail) (stands_in cs) seen lits)
+    ∙ sym (ap (λ (ls : List Lit). list_all (has_literal c.have_use.new.seen.trail) ls) lits_are)
+    ∙ sym c.are_marked-stand.ensures ∙ c.if-stand.true in
     let trail : c.trail.result.now ≡ trail_after (map negate lits) cs = c.trail.ensures ∙ c.requires.trail in
     let units : c.after-units.result.now ≡ drop (length lits) (trail_after (map negate lits) cs) =
-      c.after-units.ensures ∙ ap (λ (ls : List Lit). drop (length ls) c.trail.result.now) lits_are ∙ ap (λ (t : List Lit). drop (length lits) t) trail in
+    c.after-units.ensures ∙ ap (λ (ls : List Lit). drop (length ls) c.trail.result.now) lits_are ∙ ap (λ (t : List Lit). drop (length lits) t) trail in
     let used : c.in_ok-used.used ≡ have_use c.after-units.result.now cs =
-      c.in_ok-used.ensures.used ∙ ap (λ (hs : List ℕ). have_use c.after-units.result.now (clauses_at (known c.args.cnf.now c.args.earlier.now) hs)) c.hints.ensures in
+    c.in_ok-used.ensures.used ∙ ap (λ (hs : List ℕ). have_use c.after-units.result.now (clauses_at (known c.args.cnf.now c.args.earlier.now) hs)) c.hints.ensures in
     used ∙ ap (λ (us : List Lit). have_use us cs) units
     ∙ use_by_trail (map negate lits) cs (length lits) (sym (length-map lits negate))
     ∙ rw stand refl

@@ -12,5 +12,5 @@ loop-lit-preserved c =
     let trail = negations_more c.args.lits.now c.loop-lit.lit-index d c.loop-lit-test.true in
     let once = once_more c.args.lits.now c.loop-lit.lit-index d c.loop-lit-test.true in
     let answer : c.if-once.once ≡ no_repeat (take (c.loop-lit.lit-index + 1) c.args.lits.now) =
-      elim c.if-once.branch [ then-once w ↦ grind (arith, once) | else-once w ↦ grind (arith, once) ] in
+    elim c.if-once.branch [ then-once w ↦ grind (arith, once) | else-once w ↦ grind (arith, once) ] in
     (grind (arith, trail), answer, grind arith, grind arith)
