@@ -1,15 +1,13 @@
 -- What the hints of a line made true, and what is used of it.
-use Rattle.std.proofs.Common.{◌≡◌, ℕ, suc, zero, ◌+◌, ◌<◌, ◌≤◌, Bool, true, false, ◌&&◌, ◌||◌, List, [], ◌∷◌, ◌++◌, map, length, drop, get_or, Option, None, Some, refl, sym, ap, subst, ◌∙◌, arith}
+use Rattle.std.proofs.Common.{◌≡◌, ℕ, suc, zero, ◌<◌, ◌≤◌, Bool, true, false, ◌&&◌, ◌||◌, List, [], ◌∷◌, ◌++◌, map, length, drop, get_or, Option, None, Some, refl, sym, ◌∙◌, arith}
 use Rattle.std.specs.Prelude.{slice_get}
-use Rattle.std.specs.List.{list_any, list_all}
+use Rattle.std.specs.List.{list_all}
 use Rattle.std.specs.Option.{option_map_or}
 use Rattle.std.proofs.lemmas.List.{append-nil, append_assoc, length-append, length-map}
 use Rattle.std.proofs.Math.Seq.{drop-cons, drop-append_seam}
 use Rattle.prv_cnf.specs.declared.literal.Lit.{Lit}
 use Rattle.prv_cnf.specs.Literals.{negate, has_literal}
-use Rattle.prv_check.specs.declared.fault.LineWhy.{LineWhy}
-use Rattle.prv_check.specs.declared.fault.LineWhy.TheVariants.{NotUnit}
-use Rattle.prv_check.specs.Propagation.{unit_literal, hints_fault, trail_after}
+use Rattle.prv_check.specs.Propagation.{unit_literal, trail_after}
 use Rattle.prv_check.specs.Lines.{clauses_at}
 use Rattle.prv_check.specs.Freshness.{stands_in, units_used, have_use}
 

@@ -1,6 +1,6 @@
 -- What a line has that passes its tests.
 use Rattle.std.proofs.Common.{◌≡◌, ℕ, ◌+◌, ◌<◌, ◌≤◌, inl, inr, arith, below_more, Bool, true, false, not, List, map, length, Option, None, Some, refl}
-use Rattle.std.specs.Prelude.{nat_lt, IsTrue, slice_get, take}
+use Rattle.std.specs.Prelude.{nat_lt, slice_get, take}
 use Rattle.std.specs.List.{list_all}
 use Rattle.std.specs.Option.{option_or, option_and_then, is_some, IfNone, IfSome}
 use Rattle.std.proofs.lemmas.Bool.{cases_lt}

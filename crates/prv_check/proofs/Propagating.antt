@@ -1,17 +1,12 @@
 -- One literal at a time, and one hint at a time.
-use Rattle.std.proofs.Common.{◌≡◌, ◌≢◌, ℕ, suc, zero, ◌+◌, ◌<◌, ◌≤◌, Bool, true, false, not, cond, ◌&&◌, ◌||◌, List, [], ◌∷◌, ◌++◌, map, length, take, drop, get_or, Option, None, Some, refl, sym, ap, subst, ◌∙◌, add-one, arith}
+use Rattle.std.proofs.Common.{◌≡◌, ℕ, suc, ◌+◌, ◌<◌, Bool, true, false, not, List, [], ◌∷◌, ◌++◌, length, take, drop, get_or, Option, None, Some, refl, sym, subst, ◌∙◌, add-one, arith}
 use Rattle.std.specs.Prelude.{MatchOption, slice_index_or}
-use Rattle.std.specs.List.{list_any, list_all, filter}
 use Rattle.std.specs.Option.{option_map_or}
-use Rattle.std.proofs.lemmas.Bool.{not-true, not-false}
-use Rattle.std.proofs.lemmas.Grind.{common_steps}
-use Rattle.std.proofs.lemmas.List.{append-nil, append_assoc, map-append}
-use Rattle.std.proofs.lemmas.List.Elements.{filter-append, filter_more}
+use Rattle.std.proofs.lemmas.Bool.{not-true}
+use Rattle.std.proofs.lemmas.List.Elements.{filter-append}
 use Rattle.std.proofs.lemmas.List.Folds.{list_all-append}
 use Rattle.prv_cnf.specs.declared.literal.Lit.{Lit}
 use Rattle.prv_cnf.specs.Literals.{same_literal}
-use Rattle.prv_cnf.proofs.Values.{same_literal-eq}
-use Rattle.prv_check.specs.declared.fault.LineWhy.{LineWhy}
 use Rattle.prv_check.specs.declared.fault.LineWhy.TheVariants.{NotUnit}
 use Rattle.prv_check.specs.Propagation.{is_false, unfalsified, sole, unit_literal, hints_fault, trail_after}
 use Rattle.std.proofs.lemmas.List.{take-append-drop}

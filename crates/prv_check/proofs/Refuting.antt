@@ -1,28 +1,26 @@
 -- A formula with an accepted log has no model: a line that follows is true wherever the clauses that
 -- it may name are, and the empty line at the end is true nowhere.
-use Rattle.std.proofs.Common.{◌≡◌, ℕ, suc, zero, ◌+◌, ◌<◌, ◌≤◌, Bool, true, false, not, cond, ◌||◌, ◌&&◌, List, [], ◌∷◌, ◌++◌, map, length, take, get_or, Option, None, Some, IsTrue, refl, sym, ap, subst, ◌∙◌, arith}
+use Rattle.std.proofs.Common.{◌≡◌, ℕ, suc, zero, ◌<◌, ◌≤◌, Bool, true, false, not, ◌&&◌, List, [], ◌∷◌, ◌++◌, map, length, take, get_or, Option, None, Some, refl, sym, subst, ◌∙◌, arith}
 use Rattle.std.specs.Prelude.{slice_get, slice_index_or, nat_lt}
-use Rattle.std.specs.List.{list_any, list_all, filter, AllByRecursion}
+use Rattle.std.specs.List.{list_all, AllByRecursion}
 use Rattle.std.specs.Option.{option_map_or, option_and_then}
-use Rattle.std.proofs.lemmas.Bool.{or_cases, and_parts, and_from, not-true, true_from_ne_false, ltb-true, lt-ltb}
-use Rattle.std.proofs.lemmas.Grind.{common_steps}
-use Rattle.std.proofs.lemmas.List.Folds.{list_all-append, list_all_at}
+use Rattle.std.proofs.lemmas.Bool.{and_parts, and_from, not-true, true_from_ne_false, ltb-true, lt-ltb}
+use Rattle.std.proofs.lemmas.List.Folds.{list_all-append}
 use Rattle.std.proofs.lemmas.List.Sums.{AllPass-from_list_all}
 use Rattle.std.proofs.lemmas.Option.{slice_get-get_or}
 use Rattle.std.proofs.Math.Seq.{take-suc, take-length}
 use Rattle.std.proofs.lemmas.List.{map-append, append_assoc, append-nil}
 use Rattle.prv_cnf.specs.declared.literal.Lit.{Lit}
-use Rattle.prv_cnf.specs.Literals.{variable, negate, is_literal_true, same_literal, has_literal}
+use Rattle.prv_cnf.specs.Literals.{variable, negate, is_literal_true, same_literal}
 use Rattle.prv_cnf.specs.Formulas.{Formula, IsLiteral, IsFormula}
 use Rattle.prv_cnf.specs.Models.{is_clause_true, IsModel, HasNoModel}
 use Rattle.prv_cnf.proofs.Values.{same_literal-eq, is_literal_true-negate, all-has_literal}
 use Rattle.prv_check.proofs.Passing.{passes}
-use Rattle.prv_check.specs.declared.fault.LineWhy.{LineWhy}
 use Rattle.prv_check.specs.declared.fault.LineWhy.TheVariants.{NotUnit}
 use Rattle.prv_check.specs.LogLines.{LogLine}
 use Rattle.prv_check.specs.Propagation.{is_false, unfalsified, sole, unit_literal, hints_fault}
 use Rattle.prv_check.specs.Lines.{known, clauses_at, is_within, line_fault, is_empty}
-use Rattle.prv_check.specs.Logs.{fault_at, IsFaultless, ends_empty, IsAccepted}
+use Rattle.prv_check.specs.Logs.{IsFaultless, ends_empty, IsAccepted}
 
 -- no literal is 0
 abbrev pub is_numbered : Lit → Bool

@@ -1,6 +1,6 @@
 -- Lines that add something: a fresh line contains no earlier clause, and uses each of its literals
 -- and hints.
-use Rattle.std.specs.Prelude.{Option, None, Some, IfSome, slice_get, take, ℕ, Bool, true, not, ◌&&◌, List, [], ◌∷◌, ◌++◌, map, IsTrue}
+use Rattle.std.specs.Prelude.{Option, None, IfSome, slice_get, take, ℕ, Bool, true, not, ◌&&◌, List, [], ◌∷◌, ◌++◌, map, IsTrue}
 use Rattle.std.specs.List.{list_all, list_any}
 use Rattle.std.specs.Option.{option_map_or, option_or}
 use Rattle.prv_cnf.specs.declared.literal.Lit.{Lit}

@@ -1,5 +1,5 @@
 -- Which logs are accepted, and where a log that isn't has its first fault.
-use Rattle.std.specs.Prelude.{Option, None, Some, ◌≡◌, ℕ, ◌<◌, ◌⊎◌, ⊤, Bool, true, false, List, [], ◌∷◌, length, take, slice_get, IsTrue, IsFalse}
+use Rattle.std.specs.Prelude.{Option, None, Some, ◌≡◌, ℕ, ◌<◌, ◌⊎◌, ⊤, Bool, false, List, [], ◌∷◌, length, take, slice_get, IsTrue, IsFalse}
 use Rattle.std.specs.Option.{option_and_then}
 use Rattle.prv_cnf.specs.Formulas.{Formula}
 use Rattle.prv_check.specs.LogLines.{LogLine}

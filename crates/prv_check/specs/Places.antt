@@ -1,5 +1,5 @@
 -- Places of literals in a table.
-use Rattle.std.specs.Prelude.{ℕ, suc, ◌+◌, ◌*◌, ℤ, pos, negsuc}
+use Rattle.std.specs.Prelude.{ℕ, ◌+◌, ◌*◌, ℤ, pos, negsuc}
 use Rattle.prv_cnf.specs.declared.literal.Lit.{Lit}
 
 -- the place of a signed variable: those of variable k stand at 2k and 2k + 1

@@ -1,6 +1,6 @@
 -- Unit propagation along the hints of a line: each hint in turn makes its one literal that isn't
 -- false true, until the last hint has only false literals.
-use Rattle.std.specs.Prelude.{Option, None, Some, Bool, true, not, List, [], ◌∷◌, ◌++◌, if◌then◌else◌}
+use Rattle.std.specs.Prelude.{Option, None, Some, Bool, not, List, [], ◌∷◌, ◌++◌, if◌then◌else◌}
 use Rattle.std.specs.List.{filter, list_all}
 use Rattle.std.specs.Option.{option_map_or}
 use Rattle.prv_cnf.specs.declared.literal.Lit.{Lit}

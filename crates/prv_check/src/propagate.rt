@@ -1,6 +1,5 @@
 //! Unit propagation along the hints of a line.
-ghost use Rattle.std.specs.Prelude.{◌≡◌, ◌+◌, ◌≤◌, [], length, IsTrue};
-ghost use Rattle.std.specs.Prelude.{nat_lt, false, not, MatchOption};
+ghost use Rattle.std.specs.Prelude.{◌≡◌, ◌+◌, ◌≤◌, length, nat_lt, false, not, IsTrue, MatchOption};
 ghost use Rattle.std.specs.List.{list_all};
 ghost use Rattle.prv_cnf.specs.Literals.{same_literal};
 ghost use Rattle.prv_check.specs.Propagation.{is_false, unit_literal, hints_fault, trail_after};

@@ -1,4 +1,4 @@
-use Rattle.std.proofs.Common.{◌≡◌, ℕ, ◌<◌, [], Bool, true, length, List, pos, sym, ap, subst, ◌∙◌, get_or, arith}
+use Rattle.std.proofs.Common.{◌≡◌, ℕ, [], Bool, true, length, List, pos, sym, ap, subst, ◌∙◌, get_or, arith}
 use Rattle.std.specs.Prelude.{slice_index_or, nat_lt}
 use Rattle.std.specs.List.{list_any, list_all}
 use Rattle.prv_cnf.specs.declared.literal.Lit.{Lit}

@@ -1,7 +1,5 @@
-use Rattle.std.proofs.Common.{◌≡◌, ℕ, ◌≤◌, List, length, map, sym, subst, ◌∙◌}
+use Rattle.std.proofs.Common.{◌≤◌, List, length, sym, subst, ◌∙◌}
 use Rattle.prv_cnf.specs.declared.literal.Lit.{Lit}
-use Rattle.prv_cnf.specs.Literals.{negate}
-use Rattle.prv_check.specs.Propagation.{trail_after}
 use Rattle.prv_check.specs.Lines.{known, clauses_at}
 use Rattle.prv_check.proofs.Leaning.{trail_long}
 use Rattle.prv_check.proofs.Passing.{if_none}

@@ -1,10 +1,9 @@
-use Rattle.std.proofs.Common.{◌≡◌, ℕ, ◌+◌, ◌<◌, ◌++◌, ◌∷◌, [], None, Some, List, length, take, refl, sym, ap, subst, ◌∙◌, arith}
+use Rattle.std.proofs.Common.{◌≡◌, ◌+◌, ◌<◌, ◌++◌, ◌∷◌, [], None, Some, List, length, take, refl, sym, ap, subst, ◌∙◌, arith}
 use Rattle.std.specs.Prelude.{slice_get}
 use Rattle.std.proofs.lemmas.List.{take_more}
 use Rattle.std.proofs.lemmas.Option.{slice_get_read}
 use Rattle.prv_check.specs.LogLines.{LogLine}
 use Rattle.prv_check.specs.Lines.{known}
-use Rattle.prv_check.specs.Logs.{fault_at}
 use Rattle.prv_check.specs.Indexing.{IsIndex}
 use Rattle.prv_check.specs.Freshness.{fresh_fault}
 use Rattle.prv_check.proofs.Passing.{faultless_more, faultless_all}

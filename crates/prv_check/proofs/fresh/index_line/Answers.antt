@@ -1,4 +1,4 @@
-use Rattle.std.proofs.Common.{◌≡◌, ℕ, ◌++◌, ◌∷◌, [], List, length, sym, subst, ◌∙◌}
+use Rattle.std.proofs.Common.{ℕ, List, length, sym, subst, ◌∙◌}
 use Rattle.prv_cnf.specs.declared.literal.Lit.{Lit}
 use Rattle.prv_check.specs.Lines.{known}
 use Rattle.prv_check.specs.Indexing.{IsIndex, IsListed}

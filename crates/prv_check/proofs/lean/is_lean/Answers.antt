@@ -1,11 +1,11 @@
-use Rattle.std.proofs.Common.{◌≡◌, ℕ, Bool, true, ◌&&◌, map, length, drop, List, refl, sym, ap, subst, ◌∙◌, arith}
+use Rattle.std.proofs.Common.{◌≡◌, ℕ, true, map, length, drop, List, refl, sym, ap, subst, ◌∙◌}
 use Rattle.std.specs.List.{list_all}
 use Rattle.std.proofs.lemmas.List.{length-map}
 use Rattle.prv_cnf.specs.declared.literal.Lit.{Lit}
 use Rattle.prv_cnf.specs.Literals.{negate, has_literal}
 use Rattle.prv_check.specs.Propagation.{trail_after}
 use Rattle.prv_check.specs.Lines.{known, clauses_at}
-use Rattle.prv_check.specs.Freshness.{stands_in, have_use, units_used, is_lean}
+use Rattle.prv_check.specs.Freshness.{stands_in, have_use}
 use Rattle.prv_check.proofs.Leaning.{use_by_trail, all_same}
 use Rattle.prv_check.proofs.lean.is_lean.Goals as goal
 

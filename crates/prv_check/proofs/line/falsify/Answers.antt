@@ -1,6 +1,5 @@
-use Rattle.std.proofs.Common.{◌≡◌, ◌+◌, ◌++◌, ◌∷◌, [], ◌&&◌, not, map, take, get_or, pos, arith, sym, ap, ◌∙◌}
+use Rattle.std.proofs.Common.{◌≡◌, ◌+◌, take, pos, arith}
 use Rattle.prv_cnf.specs.declared.literal.Lit.{Lit}
-use Rattle.prv_cnf.specs.Literals.{negate, has_literal}
 use Rattle.prv_check.specs.Lines.{no_repeat}
 use Rattle.prv_check.proofs.Falsifying.{negations_more, once_more}
 use Rattle.prv_check.proofs.line.falsify.Goals as goal

@@ -1,5 +1,4 @@
 use Rattle.std.proofs.Common.{◌≡◌, ◌++◌, take}
-use Rattle.prv_check.specs.Marking.{Marking}
 use Rattle.prv_check.proofs.marks.Marks.add_all.Given as goal
 
 abbrev pub invariant-loop-lit : goal.invariant-loop-lit
