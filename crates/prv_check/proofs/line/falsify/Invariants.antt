@@ -1,0 +1,11 @@
+use Rattle.std.proofs.Common.{◌≡◌, map, take}
+use Rattle.prv_cnf.specs.Literals.{negate}
+use Rattle.prv_check.specs.Lines.{no_repeat}
+use Rattle.prv_check.proofs.line.falsify.Given as goal
+
+abbrev pub invariant-loop-lit : goal.invariant-loop-lit
+invariant-loop-lit l =
+    (l.marks.trail ≡ map negate (take l.lit-index l.lits))
+    × (l.once ≡ no_repeat (take l.lit-index l.lits))
+    × (l.marks.vars ≡ l.fn.marks.vars)
+    × (l.marks.room ≡ l.fn.marks.room)

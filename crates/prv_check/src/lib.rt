@@ -1,0 +1,27 @@
+//! A checker for logs of derived clauses, in the manner of LRAT: each line of a log names the
+//! clauses that its clause follows from by unit propagation. A formula with an accepted log has no
+//! model, and whoever made the log needs no trust.
+#![tactic(auto)]
+
+mod checker;
+mod containment;
+mod fault;
+mod fresh;
+mod index;
+mod known;
+mod law;
+mod lean;
+mod line;
+mod log;
+mod marks;
+mod propagate;
+#[cfg(test)]
+mod tests;
+mod work;
+
+pub use checker::check;
+pub use fault::{CheckError, LineWhy};
+pub use fresh::check_fresh;
+pub use law::accepted_has_no_model;
+pub use log::{Line, Log};
+pub use work::{Work, check_line, prepare};

@@ -1,0 +1,68 @@
+//! Unit propagation along the hints of a line.
+ghost use Rattle.std.specs.Prelude.{◌≡◌, ◌+◌, ◌≤◌, length, nat_lt, false, not, IsTrue, MatchOption};
+ghost use Rattle.std.specs.List.{list_all};
+ghost use Rattle.prv_cnf.specs.Literals.{same_literal};
+ghost use Rattle.prv_check.specs.Propagation.{is_false, unit_literal, hints_fault, trail_after};
+ghost use Rattle.prv_check.specs.Lines.{known, clauses_at};
+
+use crate::fault::LineWhy;
+use crate::known::clause_at;
+use crate::log::Line;
+use crate::marks::Marks;
+use prv_cnf::{Cnf, Lit};
+
+/// The one literal of a clause that isn't false, if there is one.
+pub fn unit_of(marks: &Marks, lits: &[Lit]) -> Option<Lit>
+    ensures { result ≡ unit_literal marks.now.trail lits.now }
+{
+    let mut found = None;
+    for lit in lits {
+        if !marks.has_negation(*lit) {
+            if is_other(found, *lit) {
+                return None;
+            }
+            found = Some(*lit);
+        }
+    }
+    found
+}
+
+/// Whether a literal was found that isn't this one.
+fn is_other(found: Option<Lit>, lit: Lit) -> bool
+    ensures { MatchOption found (result ≡ false) (λ l. result ≡ not (same_literal l lit)) }
+{
+    match found {
+        None => false,
+        Some(other) => other.0 != lit.0,
+    }
+}
+
+/// Whether each literal of a clause is false.
+pub fn all_false(marks: &Marks, lits: &[Lit]) -> bool
+    ensures { result ≡ list_all (is_false marks.now.trail) lits.now }
+{
+    lits.iter().all(|lit| marks.has_negation(*lit))
+}
+
+/// Makes what the hints imply true, one hint after another, and answers the first fault.
+pub fn propagate(cnf: &Cnf, earlier: &[Line], hints: &[u32], marks: &mut Marks) -> Option<LineWhy>
+    requires known { IsTrue (list_all (λ n. nat_lt n (length (known cnf.now earlier.now))) hints.now) }
+    requires room { length marks.old.trail + length hints.now ≤ marks.old.room }
+    ensures fault { result ≡ hints_fault marks.old.trail (clauses_at (known cnf.now earlier.now) hints.now) }
+    ensures trail { marks.new ≡ record marks.old { trail = trail_after marks.old.trail (clauses_at (known cnf.now earlier.now) hints.now) } }
+{
+    let Some((last, others)) = hints.split_last() else {
+        return Some(LineWhy::NoHints);
+    };
+    for hint in others {
+        match unit_of(marks, clause_at(cnf, earlier, *hint as usize)) {
+            None => return Some(LineWhy::NotUnit),
+            Some(lit) => marks.add(lit),
+        }
+    }
+    if all_false(marks, clause_at(cnf, earlier, *last as usize)) {
+        None
+    } else {
+        Some(LineWhy::NotFalse)
+    }
+}
