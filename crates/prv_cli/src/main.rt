@@ -6,21 +6,37 @@ mod pair;
 mod report;
 mod request;
 mod term_text;
+#[cfg(test)]
+mod tests;
 mod top;
 
+use fault::Fault;
 use prv_io::{HostFiles, HostSink};
 use std::process::ExitCode;
 use std::{env, io};
+use top::{plain, refuse};
 
-fn main(rt: HostRuntime) -> io::Result<ExitCode> {
-    let words: Vec<String> = env::args(&rt)?.skip(1).collect(rt.alloc())?;
-    let mut texts = Vec::new(rt.alloc());
-    for word in &words {
-        texts.push(word.as_str())?;
-    }
+fn main(rt: HostRuntime) -> ExitCode {
+    let mut err = HostSink::new(rt.stderr());
+    let words = match words_of(&rt) {
+        Ok(words) => words,
+        Err(fault) => return ExitCode::from(refuse(&mut err, fault)),
+    };
+    let texts: Vec<&str> = match words.iter().map(|word| word.as_str()).collect(rt.alloc()) {
+        Ok(texts) => texts,
+        Err(_) => return ExitCode::from(refuse(&mut err, Fault::Memory)),
+    };
     let mut files = HostFiles::new(&rt);
     let mut out = HostSink::new(rt.stdout());
-    let mut err = HostSink::new(rt.stderr());
-    let status = top::plain(rt.alloc(), texts.as_slice(), &mut files, &mut out, &mut err);
-    Ok(ExitCode::from(status))
+    let status = plain(rt.alloc(), texts.as_slice(), &mut files, &mut out, &mut err);
+    ExitCode::from(status)
+}
+
+/// The words of the command line behind the program's name. Words that are no text have no reading.
+fn words_of(rt: &HostRuntime) -> Result<Vec<String>, Fault> {
+    match env::args(rt) {
+        Ok(words) => Ok(words.skip(1).collect(rt.alloc())?),
+        Err(error) if error.kind() == io::ErrorKind::OutOfMemory => Err(Fault::Memory),
+        Err(_) => Err(Fault::Usage),
+    }
 }

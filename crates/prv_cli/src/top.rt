@@ -75,7 +75,7 @@ pub fn plain<F: Files, O: Sink, E: Sink>(
 }
 
 /// Writes the line of a refusal, and answers its status.
-fn refuse<E: Sink>(err: &mut E, fault: Fault) -> u8
+pub fn refuse<E: Sink>(err: &mut E, fault: Fault) -> u8
     ensures status { result ≡ status_of fault }
     ensures line { TakesSome (E.taken err.old) (E.taken err.new) (fault_line fault) }
 {

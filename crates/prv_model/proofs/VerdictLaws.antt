@@ -1,8 +1,7 @@
 -- What the comparison of two outcomes says.
-use Rattle.std.proofs.Common.{◌≡◌, ◌≢◌, ◌↔◌, ◌⊎◌, inl, inr, Bool, true, false, ◌&&◌, ◌||◌, if◌then◌else◌, List, ℤ, refl, sym, ap, ◌∙◌, subst}
-use Rattle.std.specs.Ordering.{int_eq}
+use Rattle.std.proofs.Common.{◌≡◌, ◌≢◌, ◌↔◌, ◌⊎◌, inl, inr, Bool, true, false, ◌&&◌, ◌||◌, if◌then◌else◌, refl, sym, ap, ◌∙◌, subst}
 use Rattle.std.specs.Cmp.{signed_Decides}
-use lib.Pointwise.{pointwise, pointwise_decides}
+use lib.Pointwise.{pointwise_decides}
 use Rattle.prv_model.specs.Comparison.{compare, is_long, ending_eq, outcome_eq}
 use Rattle.prv_model.specs.declared.outcome.Ending.{Ending}
 use Rattle.prv_model.specs.declared.outcome.Ending.TheVariants.{Returned, Fault, Assert, Long}

@@ -1,5 +1,5 @@
 -- What is left of a number in 32 bits is its word.
-use Rattle.std.proofs.Common.{◌≡◌, ℕ, zero, suc, ◌+◌, ◌-◌, ◌/◌, ◌%◌, ◌^◌, ◌<◌, ◌≤◌, ℤ, pos, negsuc, neg_ℤ, ap, sym, ◌∙◌, refl, arith, int_div, false}
+use Rattle.std.proofs.Common.{◌≡◌, ℕ, zero, suc, ◌/◌, ◌^◌, ◌<◌, ◌≤◌, ℤ, pos, negsuc, neg_ℤ, ap, refl, arith, int_div, false}
 use Rattle.std.specs.Int.{w32, cast_unsigned, cast_signed, int_wrap}
 use Rattle.std.specs.Int.Signed.{mag}
 use native.Mathlib.Nat.{div-le_self}

@@ -1,10 +1,10 @@
 -- What an expression is worth in a state, which has one word for each variable.
 -- `&&`, `||` and `?:` evaluate only what they need (ISO/IEC 9899:1999, 6.5.13 to 6.5.15).
-use Rattle.std.specs.Prelude.{List, Option, Some, None, ℤ, pos, if◌then◌else◌, slice_get}
+use Rattle.std.specs.Prelude.{List, Option, Some, ℤ, pos, if◌then◌else◌, slice_get}
 use Rattle.std.specs.Option.{option_map, option_and_then}
 use Rattle.prv_model.specs.Words.{is_zero, truth, unary, binary}
 use Rattle.prv_model.specs.declared.op.BinOp.{BinOp}
-use Rattle.prv_model.specs.declared.op.BinOp.TheVariants.{Add, Sub, Mul, Div, Rem, Shl, Shr, And, Or, Xor, Lt, Le, Gt, Ge, Eq, Ne, AndAlso, OrElse}
+use Rattle.prv_model.specs.declared.op.BinOp.TheVariants.{AndAlso, OrElse}
 use Rattle.prv_model.specs.declared.expr.Expr.{Expr}
 use Rattle.prv_model.specs.declared.expr.Expr.TheOpen.{Expr-F}
 use Rattle.prv_model.specs.declared.expr.Expr.TheFolds.{fold-Expr}

@@ -1,20 +1,19 @@
 -- The list of entries of a point is legal, and its first entry holds exactly the point.
-use Rattle.std.proofs.Common.{◌≡◌, ℕ, zero, suc, ◌+◌, Bool, true, false, ◌&&◌, not, List, [], ◌∷◌, ◌++◌, length, map, ℤ, pos, Option, Some, None, slice_get, unwrap_or, refl, sym, ap, ◌∙◌, subst, arith, append_assoc, All}
+use Rattle.std.proofs.Common.{◌≡◌, ℕ, zero, suc, ◌+◌, Bool, true, false, ◌&&◌, not, List, [], ◌∷◌, ◌++◌, length, map, ℤ, pos, Option, Some, slice_get, unwrap_or, refl, sym, ap, ◌∙◌, subst, arith, append_assoc}
 use Rattle.std.specs.Ordering.{int_eq}
 use Rattle.std.specs.List.{AllByRecursion}
 use Rattle.std.specs.Cmp.{signed_Decides}
 use Rattle.std.proofs.lemmas.List.{append-nil, length-append}
-use Rattle.prv_model.specs.Words.{is_zero, flag}
-use Rattle.prv_model.specs.Terms.{worth, total, holds}
+use Rattle.prv_model.specs.Words.{is_zero}
+use Rattle.prv_model.specs.Terms.{worth, holds}
 use Rattle.prv_model.specs.Comparison.{verdict}
 use Rattle.prv_model.specs.Boards.{IsInput, one_if, places, Claims, ShowsMember, IsLegal, FirstHoldsOnly}
 use Rattle.prv_model.specs.declared.op.TermOp.TheVariants.{Eq, Ne}
 use Rattle.prv_model.specs.declared.term.Term.{Term}
-use Rattle.prv_model.specs.declared.term.Term.TheVariants.{Param, Op, Num}
+use Rattle.prv_model.specs.declared.term.Term.TheVariants.{Param, Num}
 use Rattle.prv_model.specs.declared.verdict.Verdict.{Verdict}
 use Rattle.prv_model.specs.declared.verdict.Verdict.TheVariants as v
 use Rattle.prv_model.specs.declared.program.Pair.{Pair}
-use Rattle.prv_model.specs.declared.entry.Entry.{Entry}
 use Rattle.prv_model.proofs.TermLemmas.{worth-Param, worth-Num, worth-Op, is_zero-flag, holds-append}
 use Rattle.prv_run.specs.Points.{equals, differs, literals, rests, kind_at, point}
 

@@ -1,8 +1,7 @@
 -- How the literals and the rests of a point go on by one parameter.
-use Rattle.std.proofs.Common.{◌≡◌, ℕ, zero, suc, ◌+◌, ◌<◌, ◌≤◌, List, [], ◌∷◌, ◌++◌, length, take, drop, get_or, ℤ, pos, refl, sym, ap, ◌∙◌, arith, append_assoc, add-one}
-use Rattle.std.proofs.lemmas.List.{drop_more, take_more, drop_all, append-nil, length-take-le}
+use Rattle.std.proofs.Common.{◌≡◌, ℕ, suc, ◌+◌, ◌<◌, List, [], ◌∷◌, ◌++◌, length, take, drop, get_or, ℤ, pos, sym, ap, ◌∙◌, arith, append_assoc}
+use Rattle.std.proofs.lemmas.List.{drop_more, take_more, append-nil, length-take-le}
 use Rattle.prv_model.specs.declared.term.Term.{Term}
-use Rattle.prv_model.specs.declared.entry.Entry.{Entry}
 use Rattle.prv_run.specs.Points.{equals, differs, open_entry, literals, rests}
 
 -- the literals from a parameter on

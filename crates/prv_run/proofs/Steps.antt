@@ -1,9 +1,9 @@
 -- The steps of lists of statements and of loops.
-use Rattle.std.proofs.Common.{◌≡◌, ℕ, zero, suc, ◌-◌, ◌<◌, ◌≤◌, ◌==◌, Bool, true, false, ◌&&◌, List, [], ◌∷◌, map, length, get_or, ℤ, Option, Some, None, is_some, refl, sym, ◌∙◌, ap, arith, if◌then◌else◌, nat_eq}
+use Rattle.std.proofs.Common.{◌≡◌, ℕ, zero, suc, ◌-◌, ◌<◌, ◌≤◌, ◌==◌, Bool, true, false, List, [], ◌∷◌, map, length, get_or, ℤ, Option, Some, None, is_some, refl, sym, ◌∙◌, ap, arith}
 use Rattle.std.proofs.lemmas.Bool.Decides.{nat_tests}
 use Rattle.prv_model.specs.Words.{is_zero}
 use Rattle.prv_model.specs.Expressions.{value}
-use Rattle.prv_model.specs.Statements.{Frame, Step, goes, loop, spend, and_then, on_word}
+use Rattle.prv_model.specs.Statements.{Frame, Step, goes, loop, spend}
 use Rattle.prv_model.specs.Programs.{all_true}
 use Rattle.prv_model.specs.declared.expr.Expr.{Expr}
 

@@ -1,5 +1,5 @@
 -- The entries that say what a pair does on one input, and leave every other input open.
-use Rattle.std.specs.Prelude.{ℕ, suc, ◌+◌, List, [], ◌∷◌, ◌++◌, ℤ}
+use Rattle.std.specs.Prelude.{ℕ, suc, List, [], ◌∷◌, ◌++◌, ℤ}
 use Rattle.prv_model.specs.declared.op.TermOp.TheVariants.{Eq, Ne}
 use Rattle.prv_model.specs.declared.term.Term.{Term}
 use Rattle.prv_model.specs.declared.term.Term.TheVariants.{Param, Op, Num}

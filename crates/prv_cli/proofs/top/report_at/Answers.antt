@@ -11,11 +11,12 @@ returns-clause-shown c =
     let entries = c.in_ok-entries.entries.items in
     let word = to_z-of_z w32 c.args.word c.ranges.word in
     let input : c.push.new.self ≡ c.args.word ∷ [] =
-        c.in_ok-push.ensures.ok ∙ ap (λ (x : List ℤ). x ++ cast_signed w32 (cast_unsigned w32 c.args.word) ∷ []) c.new-input.ensures ∙ ap (λ (n : ℤ). n ∷ []) word in
+    c.in_ok-push.ensures.ok ∙ ap (λ (x : List ℤ). x ++ cast_signed w32 (cast_unsigned w32 c.args.word) ∷ []) c.new-input.ensures ∙ ap (λ (n : ℤ). n ∷ []) word in
     let first = c.in_ok-entries.ensures.first in
     record {
       entries = entries;
       legal = c.in_ok-entries.ensures.legal;
       point = rw (c.requires, input) at first;
       text_is = cc (c.in_ok-text.ensures, c.as_slice.ensures, c.as_slice-2.ensures.value);
-      status_is = c.status_for-status.ensures.value ∙ ap entries_status c.as_slice-3.ensures.value }
+      status_is = c.status_for-status.ensures.value ∙ ap entries_status c.as_slice-3.ensures.value;
+    }

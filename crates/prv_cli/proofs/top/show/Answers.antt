@@ -20,15 +20,15 @@ returns-in_err-report-clause-later g c =
 
 pub returns-in-Ok-clause-shown : goal.returns-in-Ok-clause-shown
 returns-in-Ok-clause-shown g c = λ r old new is_request told_old told_new. (
-    c.in_ok-report.report.text.items,
-    c.in_ok-report.ensures.shown r old new is_request told_old told_new,
-    c.in-Ok.ensures.taken ∙ ap (append_known (g.O.Sink.taken c.args.out.now)) c.as_slice.ensures.value,
-  )
+  c.in_ok-report.report.text.items,
+  c.in_ok-report.ensures.shown r old new is_request told_old told_new,
+  c.in-Ok.ensures.taken ∙ ap (append_known (g.O.Sink.taken c.args.out.now)) c.as_slice.ensures.value,
+)
 
 pub returns-clause-part : goal.returns-clause-part
 returns-clause-part g c = λ _ r old new is_request told_old told_new. (
-    c.in_ok-report.report.text.items,
-    c.in_ok-report.report.status,
-    c.in_ok-report.ensures.shown r old new is_request told_old told_new,
-    rw c.as_slice.ensures.value at c.in-Err.ensures.part,
-  )
+  c.in_ok-report.report.text.items,
+  c.in_ok-report.report.status,
+  c.in_ok-report.ensures.shown r old new is_request told_old told_new,
+  rw c.as_slice.ensures.value at c.in-Err.ensures.part,
+)

@@ -1,15 +1,13 @@
-use Rattle.std.proofs.Common.{rules, ◌≡◌, ◌≤◌, ◌<◌, true, false, length, map, ℕ, ◌+◌, ◌-◌, arith, sym, ap, ◌∙◌, Some, None, subst, FitsSigned}
+use Rattle.std.proofs.Common.{rules, ◌≡◌, ◌≤◌, length, arith, sym, ◌∙◌, Some, None, subst, FitsSigned}
 use Rattle.std.specs.Int.{w32}
-use Rattle.std.specs.Option.{is_some}
 use denote.Param.Weighed.{most, at_most}
-use Rattle.prv_model.specs.Words.{is_zero}
-use Rattle.prv_model.specs.Programs.{is_below, all_true}
+use Rattle.prv_model.specs.Programs.{is_below}
 use Rattle.prv_model.specs.Expressions.{value}
-use Rattle.prv_model.specs.Statements.{exec, exec_all, loop, with_value, goes, ends, spend}
+use Rattle.prv_model.specs.Statements.{exec, goes, spend}
 use Rattle.prv_model.specs.declared.stmt.Stmt.{Stmt}
 use Rattle.prv_model.proofs.stmt.Stmt.TheLaws.{the_size}
 use Rattle.prv_model.proofs.WordLemmas.{is_zero-bits}
-use Rattle.prv_run.specs.Frames.{frame_of, step_of}
+use Rattle.prv_run.specs.Frames.{frame_of}
 use Rattle.prv_run.proofs.Steps.{all_true-at, loop-turn, none-is}
 use Rattle.prv_run.proofs.execute.+execute.Goals as goal
 

@@ -1,9 +1,7 @@
-use Rattle.std.proofs.Common.{rules, ◌≡◌, ◌+◌, [], ◌∷◌, ◌++◌, take, drop, get_or, pos, ap, sym, ◌∙◌, arith, FitsSigned}
+use Rattle.std.proofs.Common.{rules, ◌≡◌, ◌+◌, [], ◌∷◌, ◌++◌, take, get_or, pos, ap, ◌∙◌, FitsSigned}
 use Rattle.std.proofs.lemmas.List.{drop_all}
 use Rattle.std.proofs.lemmas.Int.{to_z-of_z}
 use Rattle.std.specs.Int.{w32}
-use Rattle.prv_model.specs.declared.term.Term.{Term}
-use Rattle.prv_model.specs.declared.entry.Entry.{Entry}
 use Rattle.prv_run.specs.Points.{differs, open_entry, literals, rests}
 use Rattle.prv_run.proofs.PointLists.{rests-drop, one-more, all-made}
 use Rattle.prv_run.proofs.points.push_rests.Goals as goal
