@@ -1,12 +1,15 @@
 -- What the program answers, and with which status.
-use Rattle.std.specs.Prelude.{◌≡◌, ℕ, List, [], ◌∷◌, ℤ, Option, Result, Ok, Err, ⊤, codes, ◌⊎◌}
+use Rattle.std.specs.Prelude.{◌≡◌, ◌≢◌, ℕ, List, [], ◌∷◌, ℤ, Option, Result, Ok, Err, ⊤, codes, ◌⊎◌}
 use Rattle.std.specs.Io.KnownBytes.{append_known}
+use Rattle.prv_io.specs.Faults.{Rose}
 use Rattle.prv_io.specs.Sink.{TakesPart}
 use Rattle.prv_model.specs.declared.program.Pair.{Pair}
 use Rattle.prv_model.specs.declared.entry.Entry.{Entry}
-use Rattle.prv_model.specs.declared.entry.Kind.{Kind}
-use Rattle.prv_model.specs.declared.entry.Kind.TheVariants.{Same, Different, Empty, Beyond, Unexplored, Undecided}
+use Rattle.prv_model.specs.declared.verdict.Verdict.{Verdict}
+use Rattle.prv_model.specs.declared.verdict.Verdict.TheVariants.{Beyond, Same, Differ}
+use Rattle.prv_model.specs.Comparison.{verdict}
 use Rattle.prv_model.specs.Boards.{IsLegal, FirstHoldsOnly}
+use Rattle.prv_run.specs.Points.{point}
 use Rattle.prv_cli.specs.Pairs.{GivesPair}
 use Rattle.prv_cli.specs.Texts.{line, point_report}
 use Rattle.prv_cli.specs.declared.fault.Fault.{Fault}
@@ -28,31 +31,31 @@ fault_line fault.Read = line (codes "prv: read fault")
 fault_line fault.Write = line (codes "prv: write fault")
 fault_line fault.Memory = line (codes "prv: memory")
 
--- a sink took all of the bytes, or some of the first of them
-abbrev pub TakesSome : Option (List ℕ) → Option (List ℕ) → List ℕ → Type 0
-TakesSome before after bytes = (after ≡ append_known before bytes) ⊎ TakesPart before after bytes
+-- a sink took all of the bytes, or it took some of the first of them and counted a fault
+abbrev pub TakesOrFails : Option (List ℕ) → Option (List ℕ) → ℕ → ℕ → List ℕ → Type 0
+TakesOrFails before after faults_before faults_after bytes =
+    (after ≡ append_known before bytes) ⊎ (TakesPart before after bytes × Rose faults_before faults_after)
 
--- the status that a claim on the point gives
-abbrev pub kind_status : Kind → ℕ
-kind_status (Different sample) = 1
-kind_status _ = 2
+-- the status of a verdict on the point: 1 exactly where the versions differ there
+abbrev pub verdict_status : Verdict → ℕ
+verdict_status Differ = 1
+verdict_status Same = 2
+verdict_status Beyond = 2
 
-abbrev pub entries_status : List Entry → ℕ
-entries_status [] = 2
-entries_status (first ∷ rest) = kind_status first.kind
-
--- a text and a status show entries that are true of a pair, of which the first holds exactly the input
+-- a text and a status are those of the entries for a point: what these say is true of every input of the pair, and the first holds exactly the point
 pub record Shows (pair : Pair) (word : ℤ) (text : List ℕ) (status : ℕ) : Type 0 where
   pub entries : List Entry
+  pub entries_are : entries ≡ point (verdict pair (word ∷ [])) (word ∷ [])
   pub legal : IsLegal pair entries
-  pub point : FirstHoldsOnly 1 entries (word ∷ [])
+  pub first : FirstHoldsOnly 1 entries (word ∷ [])
   pub text_is : text ≡ point_report pair.before.names entries
-  pub status_is : status ≡ entries_status entries
+  pub status_is : status ≡ verdict_status (verdict pair (word ∷ []))
 
--- the same of the pair that two files give
+-- the same of the pair that two files give, in which no version is long: so the status is 2 exactly where both end alike
 pub record IsAnswer (old new : List ℕ) (word : ℤ) (text : List ℕ) (status : ℕ) : Type 0 where
   pub pair : Pair
   pub gives : GivesPair old new pair
+  pub decided : verdict pair (word ∷ []) ≢ Beyond
   pub shows : Shows pair word text status
 
 -- P, unless the answer is that a file couldn't be read, or that the report couldn't be written

@@ -258,3 +258,36 @@ fn faults_of_the_output(rt: HostRuntime) -> Result<(), Fail> {
     }
     Ok(())
 }
+
+/// NEW is read before OLD is judged.
+#[test]
+fn both_files_are_read_first(rt: HostRuntime) -> Result<(), Fail> {
+    let ran = run_with(
+        rt.alloc(),
+        &["point", "old", "new", "5"],
+        PRODUCT,
+        PLUS_ONE,
+        &[2],
+        1000,
+    )?;
+    expect(&rt, &ran, 5, "", "prv: read fault\n");
+    Ok(())
+}
+
+/// Where the line of a refusal can't be written, the status stays.
+#[test]
+fn faults_of_the_error_output(rt: HostRuntime) -> Result<(), Fail> {
+    let alloc = rt.alloc();
+    for (words, status) in [
+        (["point", "old", "new", "x"], 3),
+        (["point", "old", "new", "5"], 5),
+    ] {
+        let mut files = MemFiles::new(Vec::new(alloc), Vec::new(alloc));
+        let mut out = MemSink::new(alloc, 1000, Vec::new(alloc))?;
+        let mut err = MemSink::new(alloc, 3, Vec::new(alloc))?;
+        assert!(rt; plain(alloc, &words, &mut files, &mut out, &mut err) == status);
+        assert!(rt; err.bytes() == b"prv".as_slice());
+        assert_eq!(rt; err.faults(), 1);
+    }
+    Ok(())
+}

@@ -1,13 +1,15 @@
 //! All that the program does.
-ghost use Rattle.std.specs.Prelude.{◌≡◌, ◌≢◌, ◌⊎◌, ◌≤◌, ◌<◌, ◌↔◌, ℕ, List, [], ◌∷◌, Some, length, map, IfOk, IfErr, IfSome, IfNone, IsErrOf, OnOk, MatchOption};
+ghost use Rattle.std.specs.Prelude.{ℤ, ◌≡◌, ◌≢◌, ◌⊎◌, ◌≤◌, ◌<◌, ◌↔◌, ℕ, List, [], ◌∷◌, Some, length, map, IfOk, IfErr, IfSome, IfNone, IsErrOf, OnOk, MatchOption};
 ghost use Rattle.std.specs.Io.KnownBytes.{append_known};
 ghost use Rattle.prv_io.specs.Faults.{Rose};
 ghost use Rattle.prv_io.specs.Sink.{TakesPart};
 ghost use Rattle.prv_model.specs.declared.program.Pair.{Pair as PairIs};
+ghost use Rattle.prv_model.specs.declared.verdict.Verdict.{Verdict as VerdictIs};
+ghost use Rattle.prv_run.specs.Points.{point, kind_at};
 ghost use Rattle.prv_cli.specs.declared.fault.Fault.{Fault as FaultIs};
 ghost use Rattle.prv_cli.specs.Requests.{IsRequest, Request as RequestIs};
 ghost use Rattle.prv_cli.specs.Pairs.{GivesPair};
-ghost use Rattle.prv_cli.specs.Answers.{status_of, fault_line, TakesSome, entries_status, Shows, IsAnswer, UnlessRead, UnlessWrite, OnRefusal, IsReadFault};
+ghost use Rattle.prv_cli.specs.Answers.{status_of, fault_line, TakesOrFails, verdict_status, Shows, IsAnswer, UnlessRead, UnlessWrite, OnRefusal, IsReadFault};
 
 use crate::fault::Fault;
 use crate::pair::first_pair;
@@ -65,7 +67,7 @@ pub fn plain<F: Files, O: Sink, E: Sink>(
     ensures nothing { 3 ≤ result → result ≢ 6 → O.taken out.new ≡ O.taken out.old }
 
     // The line of a refusal goes to `err`, whole where no write of it fails.
-    ensures refused { (fault : FaultIs) → result ≡ status_of fault → TakesSome (E.taken err.old) (E.taken err.new) (fault_line fault) }
+    ensures refused { (fault : FaultIs) → result ≡ status_of fault → TakesOrFails (E.taken err.old) (E.taken err.new) (E.faults err.old) (E.faults err.new) (fault_line fault) }
     ensures quiet { result < 3 → E.taken err.new ≡ E.taken err.old }
 {
     match show(alloc, words, files, out) {
@@ -77,7 +79,7 @@ pub fn plain<F: Files, O: Sink, E: Sink>(
 /// Writes the line of a refusal, and answers its status.
 pub fn refuse<E: Sink>(err: &mut E, fault: Fault) -> u8
     ensures status { result ≡ status_of fault }
-    ensures line { TakesSome (E.taken err.old) (E.taken err.new) (fault_line fault) }
+    ensures line { TakesOrFails (E.taken err.old) (E.taken err.new) (E.faults err.old) (E.faults err.new) (fault_line fault) }
 {
     let _ = write_all(err, fault.line());
     fault.status()
@@ -199,14 +201,22 @@ fn report_at(alloc: Global, pair: &Pair, word: i32) -> Result<Report, Fault>
 
 /// The status that the claim on the first entry gives.
 fn status_for(entries: &[Entry]) -> u8
-    ensures value { result ≡ entries_status entries.now }
+    ensures value { (verdict : VerdictIs) (x : List ℤ) → entries.now ≡ point verdict x → result ≡ verdict_status verdict }
     ensures range { (result ≡ 1) ⊎ (result ≡ 2) }
 {
     match entries {
         [] => 2,
-        [first, ..] => match &first.kind {
-            Kind::Different { sample: _ } => 1,
-            _ => 2,
-        },
+        [first, ..] => status_for_kind(&first.kind),
+    }
+}
+
+/// The status that a claim on the point gives.
+fn status_for_kind(kind: &Kind) -> u8
+    ensures value { (verdict : VerdictIs) (x : List ℤ) → kind.now ≡ kind_at verdict x → result ≡ verdict_status verdict }
+    ensures range { (result ≡ 1) ⊎ (result ≡ 2) }
+{
+    match kind {
+        Kind::Different { sample: _ } => 1,
+        _ => 2,
     }
 }

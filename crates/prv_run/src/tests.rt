@@ -100,13 +100,13 @@ fn while_below(alloc: Global, var: u8, limit: i32, body: Stmt) -> Result<Stmt, F
     })
 }
 
-/// How a statement ends a run of two variables that are 0, and how many words it has put out.
+/// How a statement ends a run of two variables that are 0, and what it has put out.
 fn run_of(
     rt: &impl Abort,
     alloc: Global,
     stmt: Stmt,
     turns: u32,
-) -> Result<(Option<Ending>, usize), Fail> {
+) -> Result<(Option<Ending>, Items<i32>), Fail> {
     let mut body = Items::new(alloc);
     body.push(stmt)?;
     let mut frame = Frame {
@@ -117,7 +117,7 @@ fn run_of(
     let count = frame.state.len();
     assert!(rt; are_below(body.as_slice(), count));
     let ending = execute_all(body.as_slice(), &mut frame)?;
-    Ok((ending, frame.outs.len()))
+    Ok((ending, frame.outs))
 }
 
 /// Three turns of an outer loop, each with three of an inner one: a turn that the inner loop spends is
@@ -137,10 +137,10 @@ fn turns_are_counted_over_the_whole_run(rt: HostRuntime) -> Result<(), Fail> {
     let alloc = rt.alloc();
     let short = run_of(&rt, alloc, nested_loops(alloc)?, 11)?;
     assert!(rt; short.0 == Some(Ending::Long));
-    assert_eq!(rt; short.1, 0);
+    assert!(rt; short.1.is_empty());
     let enough = run_of(&rt, alloc, nested_loops(alloc)?, 12)?;
     assert!(rt; enough.0 == Some(Ending::Returned));
-    assert_eq!(rt; enough.1, 1);
+    assert!(rt; enough.1.as_slice() == [3].as_slice());
     Ok(())
 }
 
@@ -158,6 +158,57 @@ fn operands_are_evaluated_where_they_are_needed(rt: HostRuntime) -> Result<(), F
     let failed = block(alloc, Stmt::Out(Expr::Num(7)), Stmt::Assert(flipped))?;
     let run = run_of(&rt, alloc, failed, 1)?;
     assert!(rt; run.0 == Some(Ending::Assert));
-    assert_eq!(rt; run.1, 1);
+    assert!(rt; run.1.as_slice() == [7].as_slice());
+    Ok(())
+}
+
+fn pick(alloc: Global, test: i32) -> Result<Expr, Fail> {
+    Ok(Expr::Pick(
+        Boxed::new(alloc, Expr::Num(test))?,
+        Boxed::new(alloc, Expr::Num(1))?,
+        Boxed::new(alloc, Expr::Num(2))?,
+    ))
+}
+
+fn unary(alloc: Global, op: UnOp, n: i32) -> Result<Expr, Fail> {
+    Ok(Expr::Un(op, Boxed::new(alloc, Expr::Num(n))?))
+}
+
+/// What an expression without faults puts out.
+#[test]
+fn operators_on_one_word_and_choices(rt: HostRuntime) -> Result<(), Fail> {
+    let alloc = rt.alloc();
+    let rows = [
+        (unary(alloc, UnOp::Neg, -2147483648)?, -2147483648),
+        (unary(alloc, UnOp::Neg, 5)?, -5),
+        (unary(alloc, UnOp::Flip, 5)?, -6),
+        (unary(alloc, UnOp::Not, 0)?, 1),
+        (unary(alloc, UnOp::Not, -3)?, 0),
+        (pick(alloc, -1)?, 1),
+        (pick(alloc, 0)?, 2),
+    ];
+    for (expr, want) in rows {
+        let run = run_of(&rt, alloc, Stmt::Out(expr), 0)?;
+        assert!(rt; run.1.as_slice() == [want].as_slice());
+    }
+    Ok(())
+}
+
+fn branch(alloc: Global, test: i32) -> Result<Stmt, Fail> {
+    Ok(Stmt::If {
+        test: Expr::Num(test),
+        yes: Boxed::new(alloc, Stmt::Out(Expr::Num(1)))?,
+        no: Some(Boxed::new(alloc, Stmt::Skip)?),
+    })
+}
+
+/// Every nonzero test takes the first branch.
+#[test]
+fn branches_are_chosen_by_their_test(rt: HostRuntime) -> Result<(), Fail> {
+    for (test, count) in [(0, 0), (1, 1), (-7, 1)] {
+        let run = run_of(&rt, rt.alloc(), branch(rt.alloc(), test)?, 0)?;
+        assert!(rt; run.0.is_none());
+        assert_eq!(rt; run.1.len(), count);
+    }
     Ok(())
 }

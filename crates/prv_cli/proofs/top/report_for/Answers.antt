@@ -1,4 +1,4 @@
-use Rattle.std.proofs.Common.{rules, ◌≡◌, Some, sym, ap, ◌∙◌, subst, ℤ, FitsSigned}
+use Rattle.std.proofs.Common.{rules, ◌≡◌, [], ◌∷◌, Some, sym, ap, ◌∙◌, subst, ℤ, FitsSigned}
 use Rattle.std.specs.Int.{w32}
 use Rattle.std.proofs.lemmas.Int.{to_z-of_z}
 use Rattle.std.proofs.lemmas.Result.{IfOk-weaker}
@@ -6,6 +6,7 @@ use Rattle.prv_cli.specs.Requests.{Request}
 use Rattle.prv_cli.specs.RequestView.{request_of}
 use Rattle.prv_cli.specs.Answers.{Shows}
 use Rattle.prv_cli.proofs.TopLemmas.{request-one}
+use Rattle.prv_cli.proofs.FormRuns.{never-beyond}
 use Rattle.prv_cli.proofs.top.report_for.Goals as goal
 
 pub returns-in_default-2-clause-later : goal.returns-in_default-2-clause-later
@@ -29,6 +30,7 @@ returns-clause-shown g c =
     record {
       pair = c.in-Some-2.pair;
       gives = rw c.in-Some-2.is at found;
+      decided = never-beyond old new c.in-Some-2.pair (r.word ∷ []) (rw c.in-Some-2.is at found);
       shows = subst (λ (w : ℤ). Shows c.in-Some-2.pair w report.text.items report.status)
           (to_z-of_z w32 c.in-Some.request.word fits ∙ sym (ap (λ (q : Request). q.word) same)) shows;
     })
