@@ -16,6 +16,7 @@ use Rattle.prv_lex.proofs.Scanning.{Reads, ended, gap, token, Refuses, stuck, pa
 use Rattle.prv_lex.specs.Lexemes.{IsWord, IsDigits, IsLexeme, IsLongest, Spells}
 use Rattle.prv_lex.specs.Spacings.{AtLineEnd, IsSpacing, blank, line, block, AreSpacings, none, more, BeginsNoComment}
 use Rattle.prv_lex.specs.Readings.{IsMadeOf, last, next, IsWrong, StopsAt, stop, past}
+use Rattle.prv_lex.specs.declared.front.Front.{Front}
 use Rattle.prv_lex.specs.declared.front.Front.TheVariants.{Gap, Token, Refused}
 use Rattle.prv_lex.specs.declared.error.LexWhy.{LexWhy}
 use Rattle.prv_lex.specs.declared.error.LexWhy.TheVariants as why
@@ -121,6 +122,10 @@ run-is p bytes rest long = take_at bytes rest (prefix_len p (bytes ++ rest)) (sy
 -- a text that begins with a letter is read as a word
 word-read : (text word : List ℕ) → is_letter (slice_index text 0) ≡ true → take_while is_word_byte text ≡ word → front_of text ≡ word_front word
 word-read text word letter run = rw (letter-no_blank (slice_index text 0) letter, letter) (ap word_front run)
+
+-- what is read of the run of a word is what the text begins with
+pub word-front-is : (text word : List ℕ) (f : Front) → is_letter (slice_index text 0) ≡ true → word ≡ take_while is_word_byte text → f ≡ word_front word → f ≡ front_of text
+word-front-is text word f letter run is = is ∙ sym (word-read text word letter (sym run))
 
 digits-read : (text digits : List ℕ) → is_digit (slice_index text 0) ≡ true → take_while is_digit text ≡ digits → front_of text ≡ number_front digits
 digits-read text digits digit run = rw (digit-no_blank (slice_index text 0) digit, digit-no_letter (slice_index text 0) digit, digit) (ap number_front run)

@@ -1,5 +1,6 @@
 pub mod NumberLemmas
 pub mod CommentLemmas
+pub mod ClassLemmas
 pub mod RunLemmas
 pub mod FrontLemmas
 pub mod Scanning

@@ -12,6 +12,7 @@ is_blank b = (b == 32) || (b == 9) || (b == 13) || (b == 10)
 abbrev pub is_letter : ℕ → Bool
 is_letter b = is_ascii_alphabetic b || (b == 95)
 
+-- a decimal digit
 abbrev pub is_digit : ℕ → Bool
 is_digit b = is_ascii_digit b
 

@@ -16,6 +16,7 @@ keyword Return = codes "return"
 keyword Out = codes "out"
 keyword Assert = codes "assert"
 
+-- all reserved words
 abbrev pub keywords : List Key
 keywords = Int ∷ Main ∷ If ∷ Else ∷ While ∷ Return ∷ Out ∷ Assert ∷ []
 

@@ -37,10 +37,11 @@ symbol BarBar = codes "||"
 symbol Bang = codes "!"
 symbol Tilde = codes "~"
 
--- the symbols of two bytes, and those of one
+-- the symbols of two bytes
 abbrev pub pairs : List Sym
 pairs = ShiftLeft ∷ ShiftRight ∷ LessEqual ∷ GreaterEqual ∷ EqualEqual ∷ NotEqual ∷ AndAnd ∷ BarBar ∷ []
 
+-- the symbols of one byte
 abbrev pub singles : List Sym
 singles = OpenParen ∷ CloseParen ∷ OpenBrace ∷ CloseBrace ∷ Semicolon ∷ Comma ∷ Assign ∷ At ∷ Question ∷ Colon ∷ Plus ∷ Minus ∷ Star ∷ Slash ∷ Percent ∷ Less ∷ Greater ∷ Ampersand ∷ Caret ∷ Bar ∷ Bang ∷ Tilde ∷ []
 

@@ -1,10 +1,12 @@
-ghost use Rattle.std.specs.Prelude.{◌≡◌, ℕ, List, IfOk, IsErrOf, MatchResult, ◌⊎◌};
+ghost use Rattle.std.specs.Prelude.{◌≡◌, ℕ, List, ◌<◌, ◌≤◌, IfOk, IfErr, IsErrOf, MatchResult, ◌⊎◌};
 ghost use Rattle.prv_lex.specs.declared.error.LexWhy.{LexWhy};
 ghost use Rattle.prv_lex.specs.declared.token.Token.{Token};
 ghost use Rattle.prv_lex.specs.Readings.{HasTokens, IsRefused};
+ghost use Rattle.prv_lex.specs.Fronts.{len_of, IsAdded, StopsWith};
 
+use crate::class::{is_blank, is_letter};
 use crate::error::{LexError, LexWhy};
-use crate::front::{Front, read_front};
+use crate::front::{Front, other_front, word_at, word_of};
 use crate::token::Token;
 use std::alloc::Global;
 
@@ -33,19 +35,36 @@ pub fn tokens(alloc: Global, bytes: &[u8]) -> Result<Vec<Token>, LexError>
             why: LexWhy::Long,
         });
     }
-    let mut found = Vec::new(alloc);
+    // Few files have a token for each two bytes, so the list seldom grows.
+    let mut found = Vec::with_capacity(alloc, bytes.len() / 2)?;
     let mut place = 0;
     while place < bytes.len() {
-        let at = place as u32;
-        let front = read_front(alloc, &bytes[place..])?;
-        match front {
-            Front::Gap(len) => place += len,
-            Front::Token(tok, len) => {
-                found.push(Token { tok, place: at })?;
-                place += len;
-            }
-            Front::Refused(why) => return Err(LexError::Refused { place: at, why }),
+        let text = &bytes[place..];
+        if is_blank(text[0]) {
+            place += 1;
+        } else if is_letter(text[0]) {
+            place = add_front(&mut found, place, word_at(alloc, word_of(text))?)?;
+        } else {
+            place = add_front(&mut found, place, other_front(text))?;
         }
     }
     Ok(found)
+}
+
+/// Adds what stands at a place to the tokens, and returns the place behind it.
+fn add_front(found: &mut Vec<Token>, place: usize, front: Front) -> Result<usize, LexError>
+    requires near { place < 65_536 }
+    requires short { len_of front ≤ 65_536 }
+    ensures added { IfOk result (λ next. IsAdded front place found.old.items found.new.items next) }
+    ensures stopped { IfErr result (λ e. StopsWith front place e) }
+{
+    let at = place as u32;
+    match front {
+        Front::Gap(len) => Ok(place + len),
+        Front::Token(tok, len) => {
+            found.push(Token { tok, place: at })?;
+            Ok(place + len)
+        }
+        Front::Refused(why) => Err(LexError::Refused { place: at, why }),
+    }
 }

@@ -1,6 +1,5 @@
-ghost use Rattle.std.specs.Prelude.{◌≡◌, ◌<◌, length, [], ◌∷◌, nat_eq};
-ghost use Rattle.std.specs.List.{find, starts_with};
-ghost use Rattle.prv_lex.specs.Symbols.{symbol as spelling, pairs, singles, symbol_at};
+ghost use Rattle.std.specs.Prelude.{◌≡◌, ◌<◌, length, [], ◌∷◌};
+ghost use Rattle.prv_lex.specs.Symbols.{symbol as spelling, symbol_at};
 
 use crate::token::Sym;
 
@@ -9,18 +8,14 @@ pub fn symbol(text: &[u8]) -> Option<Sym>
     requires { 0 < length text.now }
     ensures { result ≡ symbol_at text.now }
 {
-    if text.len() == 1 {
-        return single(text[0]);
-    }
-    match pair(text[0], text[1]) {
-        Some(sym) => Some(sym),
-        None => single(text[0]),
-    }
+    // No symbol has a 0, so it stands for the end of the text.
+    let second = if text.len() > 1 { text[1] } else { 0 };
+    longest(text[0], second)
 }
 
-/// The symbol of these two bytes.
-fn pair(first: u8, second: u8) -> Option<Sym>
-    ensures { result ≡ find (λ s. starts_with nat_eq (first ∷ second ∷ []) (spelling s)) pairs }
+/// The longest symbol that these two bytes begin with.
+fn longest(first: u8, second: u8) -> Option<Sym>
+    ensures { result ≡ symbol_at (first ∷ second ∷ []) }
 {
     match (first, second) {
         (b'<', b'<') => Some(Sym::ShiftLeft),
@@ -31,37 +26,28 @@ fn pair(first: u8, second: u8) -> Option<Sym>
         (b'!', b'=') => Some(Sym::NotEqual),
         (b'&', b'&') => Some(Sym::AndAnd),
         (b'|', b'|') => Some(Sym::BarBar),
-        _ => None,
-    }
-}
-
-/// The symbol of this byte alone.
-fn single(first: u8) -> Option<Sym>
-    ensures { result ≡ find (λ s. starts_with nat_eq (first ∷ []) (spelling s)) singles }
-{
-    match first {
-        b'(' => Some(Sym::OpenParen),
-        b')' => Some(Sym::CloseParen),
-        b'{' => Some(Sym::OpenBrace),
-        b'}' => Some(Sym::CloseBrace),
-        b';' => Some(Sym::Semicolon),
-        b',' => Some(Sym::Comma),
-        b'=' => Some(Sym::Assign),
-        b'@' => Some(Sym::At),
-        b'?' => Some(Sym::Question),
-        b':' => Some(Sym::Colon),
-        b'+' => Some(Sym::Plus),
-        b'-' => Some(Sym::Minus),
-        b'*' => Some(Sym::Star),
-        b'/' => Some(Sym::Slash),
-        b'%' => Some(Sym::Percent),
-        b'<' => Some(Sym::Less),
-        b'>' => Some(Sym::Greater),
-        b'&' => Some(Sym::Ampersand),
-        b'^' => Some(Sym::Caret),
-        b'|' => Some(Sym::Bar),
-        b'!' => Some(Sym::Bang),
-        b'~' => Some(Sym::Tilde),
+        (b'(', _) => Some(Sym::OpenParen),
+        (b')', _) => Some(Sym::CloseParen),
+        (b'{', _) => Some(Sym::OpenBrace),
+        (b'}', _) => Some(Sym::CloseBrace),
+        (b';', _) => Some(Sym::Semicolon),
+        (b',', _) => Some(Sym::Comma),
+        (b'=', _) => Some(Sym::Assign),
+        (b'@', _) => Some(Sym::At),
+        (b'?', _) => Some(Sym::Question),
+        (b':', _) => Some(Sym::Colon),
+        (b'+', _) => Some(Sym::Plus),
+        (b'-', _) => Some(Sym::Minus),
+        (b'*', _) => Some(Sym::Star),
+        (b'/', _) => Some(Sym::Slash),
+        (b'%', _) => Some(Sym::Percent),
+        (b'<', _) => Some(Sym::Less),
+        (b'>', _) => Some(Sym::Greater),
+        (b'&', _) => Some(Sym::Ampersand),
+        (b'^', _) => Some(Sym::Caret),
+        (b'|', _) => Some(Sym::Bar),
+        (b'!', _) => Some(Sym::Bang),
+        (b'~', _) => Some(Sym::Tilde),
         _ => None,
     }
 }
