@@ -1,0 +1,12 @@
+pub mod TextLemmas
+pub mod Refusals
+pub mod Heads
+pub mod OptionLemmas
+pub mod Uniqueness
+pub mod OptionSteps
+pub mod Reading
+pub mod InputLemmas
+pub mod Slots
+pub mod CommandLemmas
+pub mod ResumeLemmas
+pub mod AnswerLemmas

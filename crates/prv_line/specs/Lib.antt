@@ -1,0 +1,9 @@
+pub mod Texts
+pub mod Commands
+pub mod Options
+pub mod Readings
+pub mod Usages
+pub mod Views
+pub mod Waiting
+pub mod Answers
+pub mod Steps
