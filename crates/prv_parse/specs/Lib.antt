@@ -1,4 +1,11 @@
-pub mod Tokens
-pub mod Forms
+pub mod Operators
+pub mod Texts
+pub mod Skeletons
 pub mod Trees
-pub mod Spellings
+pub mod Grammar
+pub mod Refusals
+pub mod Reader
+pub mod Fixed
+pub mod Cursors
+pub mod Statements
+pub mod MainFunctions

@@ -1,40 +1,51 @@
--- The program of a form.
-use Rattle.std.specs.Prelude.{◌≡◌, Bool, true, false, List, [], ◌∷◌, fold, pos}
-use Rattle.prv_model.specs.declared.op.BinOp.TheVariants.{Add}
-use Rattle.prv_model.specs.declared.expr.Expr.{Expr}
-use Rattle.prv_model.specs.declared.expr.Expr.TheVariants as expr
-use Rattle.prv_model.specs.declared.stmt.Stmt.{Stmt}
-use Rattle.prv_model.specs.declared.stmt.Stmt.TheVariants.{Return, Marked}
-use Rattle.prv_model.specs.declared.program.Program.{Program}
-use Rattle.prv_parse.specs.declared.form.Item.{Item}
-use Rattle.prv_parse.specs.declared.form.Item.TheVariants.{Param, Num}
-use Rattle.prv_parse.specs.declared.form.Form.{Form}
+-- How large a tree is.
+use Rattle.std.specs.Prelude.{ℕ, ◌+◌, ◌<◌, ◌^◌, List, length, Option, Some, None, map, sum}
+use Rattle.prv_parse.specs.declared.tree.Ident.{Ident}
+use Rattle.prv_parse.specs.declared.tree.StmtTree.{StmtTree}
+use Rattle.prv_parse.specs.declared.tree.StmtTree.TheOpen.{StmtTree-F}
+use Rattle.prv_parse.specs.declared.tree.StmtTree.TheFolds.{fold-StmtTree}
 
--- an item as an expression; the parameter is variable 0
-abbrev pub expr_of : Item → Expr
-expr_of Param = expr.Var 0
-expr_of (Num n) = expr.Num n
+-- a count that is there
+abbrev pub counted : Option ℕ → ℕ
+counted None = 0
+counted (Some n) = n
 
--- one more item on the right
-abbrev pub plus : Expr → Item → Expr
-plus left item = expr.Bin Add left (expr_of item)
+-- one node, with the count of statements of each child in its place
+abbrev pub node_count : StmtTree-F ℕ → ℕ
+node_count (StmtTree-F.If c chosen other) = 1 + (chosen + counted other)
+node_count (StmtTree-F.While c body) = 1 + body
+node_count (StmtTree-F.Block all) = 1 + sum all
+node_count (StmtTree-F.Marked m body) = 1 + body
+node_count _ = 1
 
--- the sum of items, grouped to the left; of none it is 0
-abbrev pub sum_of : List Item → Expr
-sum_of [] = expr.Num (pos 0)
-sum_of (first ∷ rest) = fold plus (expr_of first) rest
+-- how many statements and declarations a statement is, itself and each one inside it
+abbrev pub stmt_count : StmtTree → ℕ
+stmt_count = fold-StmtTree ℕ node_count
 
--- a statement, with mark 1 where it is marked
-abbrev pub marked_as : Bool → Stmt → Stmt
-marked_as true body = Marked 1 body
-marked_as false body = body
+-- how many statements a body has, each one inside another included
+abbrev pub body_count : List StmtTree → ℕ
+body_count body = sum (map (λ s. stmt_count s) body)
 
--- the body of `main`: the one statement `return SUM`
-abbrev pub body_of : Form → List Stmt
-body_of form = marked_as form.marked (Return (sum_of form.items)) ∷ []
+-- one node, with the count of declarations of each child in its place
+abbrev pub node_declarations : StmtTree-F ℕ → ℕ
+node_declarations (StmtTree-F.Declare x value) = 1
+node_declarations (StmtTree-F.If c chosen other) = chosen + counted other
+node_declarations (StmtTree-F.While c body) = body
+node_declarations (StmtTree-F.Block all) = sum all
+node_declarations (StmtTree-F.Marked m body) = body
+node_declarations _ = 0
 
--- a program is that of a form: its one variable is the parameter
-pub record IsProgramOf (form : Form) (p : Program) : Type 0 where
-  pub params : p.params ≡ 1
-  pub names : p.names ≡ form.name ∷ []
-  pub body : p.body ≡ body_of form
+-- how many declarations a statement has
+abbrev pub declaration_count : StmtTree → ℕ
+declaration_count = fold-StmtTree ℕ node_declarations
+
+-- how many declarations a body has
+abbrev pub body_declarations : List StmtTree → ℕ
+body_declarations body = sum (map (λ s. declaration_count s) body)
+
+-- what a tree keeps: it has a parameter, and its parameters, its variables with them, and its statements are each fewer than 2^31
+pub record IsTree (params : List Ident) (body : List StmtTree) : Type 0 where
+  pub some_params : 0 < length params
+  pub few_params : length params < 2 ^ 31
+  pub few_variables : length params + body_declarations body < 2 ^ 31
+  pub few_statements : body_count body < 2 ^ 31

@@ -1,19 +1,33 @@
-//! Programs of the first form, from their bytes to their trees.
+//! From the tokens of a file to its tree, or to the first place at which the text can be no program.
 //!
-//! The first form is `int main(int NAME) { return SUM; }`, where `@1` may stand before `return`, and SUM
-//! is 1 to 257 items joined by `+`, each of them NAME or a number. Which texts are in the form, and which
-//! form they are, is said in `specs/` over lists of bytes.
+//! `parse` is the one entry. Which tokens are a program, and of which tree, is said in `specs/` as a
+//! grammar: a relation between texts and trees.
 #![tactic(auto)]
 
-mod form;
-mod law;
-mod read;
-mod token;
+mod block;
+mod cursor;
+mod error;
+mod expression;
+mod fixed;
+mod laws;
+mod main_function;
+mod mark;
+mod operators;
+mod parser;
+mod part;
+mod program;
+mod reader;
+mod skeleton;
+mod statement;
+mod stop;
 mod tree;
 
-pub use form::{Form, Item};
-pub use law::spelled;
-pub use read::read_form;
+pub use error::ParseError;
+pub use laws::{one_refusal, one_tree, tree_or_refusal};
+pub use parser::parse;
+pub use program::Tree;
+pub use skeleton::{Skel, SkelItem};
+pub use tree::{ExprTree, Ident, Mark, StmtTree};
 
 #[cfg(test)]
 mod tests;

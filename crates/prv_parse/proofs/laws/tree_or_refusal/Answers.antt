@@ -1,0 +1,8 @@
+use Rattle.prv_parse.proofs.ExactBack.{tree-no-syntax, tree-no-deep}
+use Rattle.prv_parse.proofs.laws.tree_or_refusal.Goals as goal
+
+pub returns-clause-syntax : goal.returns-clause-syntax
+returns-clause-syntax c = tree-no-syntax
+
+pub returns-clause-deep : goal.returns-clause-deep
+returns-clause-deep c = tree-no-deep
