@@ -1,0 +1,4 @@
+pub mod KeyLemmas
+pub mod NestingLemmas
+pub mod VariableLemmas
+pub mod CountLemmas

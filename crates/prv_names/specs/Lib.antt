@@ -1,0 +1,4 @@
+pub mod Sayings
+pub mod Scopes
+pub mod Walks
+pub mod Versions
