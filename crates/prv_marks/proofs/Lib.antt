@@ -1,0 +1,4 @@
+pub mod Orders
+pub mod MarkLemmas
+pub mod SkeletonLemmas
+pub mod PairLemmas
