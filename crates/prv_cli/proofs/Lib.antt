@@ -1,5 +1,5 @@
 pub mod Capped
 pub mod Spelling
-pub mod WordLists
-pub mod TopLemmas
-pub mod FormRuns
+pub mod Reading
+pub mod Answering
+pub mod FileLaws

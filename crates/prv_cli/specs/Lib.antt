@@ -1,5 +1,4 @@
 pub mod Texts
-pub mod Requests
-pub mod RequestView
-pub mod Pairs
+pub mod Faults
+pub mod Versions
 pub mod Answers

@@ -1,5 +1,5 @@
 -- The texts of terms, entries and reports. Each line ends with LF.
-use Rattle.std.specs.Prelude.{ℕ, ◌==◌, Bool, true, false, List, [], ◌∷◌, ◌++◌, length, take, flat_map, count_by, ℤ, slice_get, unwrap_or, nat_le, if◌then◌else◌, codes, decimal}
+use Rattle.std.specs.Prelude.{ℕ, ◌-◌, pos, ◌==◌, Bool, true, false, List, [], ◌∷◌, ◌++◌, length, take, flat_map, count_by, ℤ, slice_get, unwrap_or, nat_le, if◌then◌else◌, codes, decimal}
 use Rattle.std.specs.Fmt.{signed_decimal}
 use Rattle.prv_model.specs.declared.op.TermOp.{TermOp}
 use Rattle.prv_model.specs.declared.op.TermOp.TheVariants.{Add, Sub, Mul, Div, Rem, Shl, Shr, And, Or, Xor, Lt, Le, Eq, Ne}
@@ -11,6 +11,9 @@ use Rattle.prv_model.specs.declared.entry.Reason.TheVariants.{Lines, Numbers, Cl
 use Rattle.prv_model.specs.declared.entry.Kind.{Kind}
 use Rattle.prv_model.specs.declared.entry.Kind.TheVariants.{Same, Different, Empty, Beyond, Unexplored, Undecided}
 use Rattle.prv_model.specs.declared.entry.Entry.{Entry}
+use Rattle.prv_model.specs.declared.outcome.Outcome.{Outcome}
+use Rattle.prv_model.specs.declared.outcome.Ending.{Ending}
+use Rattle.prv_model.specs.declared.outcome.Ending.TheVariants.{Returned, Fault, Assert, Long}
 
 -- a text as a line
 abbrev pub line : List ℕ → List ℕ
@@ -146,3 +149,22 @@ counts_line entries = line (count_text (codes "same ") is_same entries ++ count_
 -- the report of a point
 abbrev pub point_report : List (List ℕ) → List Entry → List ℕ
 point_report names entries = line (codes "regions " ++ decimal (length entries)) ++ flat_map (entry_line names) entries ++ counts_line entries ++ line (codes "end point")
+
+-- the words that a run put out; a returned word is the last of its outs, and is none of them
+abbrev pub put_out : Outcome → List ℤ
+put_out o = put_before o.how o.outs
+  where
+    put_before : Ending → List ℤ → List ℤ
+    put_before Returned outs = take (length outs - 1) outs
+    put_before _ outs = outs
+
+-- how a run ended, with the word that it returned
+abbrev pub ending_text : Ending → List ℤ → List ℕ
+ending_text Returned outs = codes "returned " ++ signed_decimal (unwrap_or (slice_get outs (length outs - 1)) (pos 0))
+ending_text Fault outs = codes "fault"
+ending_text Assert outs = codes "assert"
+ending_text Long outs = codes "long"
+
+-- what a run shows: a line for each word that it put out, and one for its end
+abbrev pub outcome_text : Outcome → List ℕ
+outcome_text o = flat_map (λ n. line (codes "out " ++ signed_decimal n)) (put_out o) ++ line (ending_text o.how o.outs)

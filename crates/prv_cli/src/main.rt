@@ -1,14 +1,18 @@
 //! The program `prv`, which compares two versions of one program over their common input space.
 #![tactic(auto)]
 
+mod answer;
 mod fault;
-mod pair;
+mod fault_text;
+mod laws;
+mod load;
+mod outcome_text;
 mod report;
-mod request;
 mod term_text;
 #[cfg(test)]
 mod tests;
 mod top;
+mod version;
 
 use fault::Fault;
 use prv_io::{HostFiles, HostSink};
@@ -20,11 +24,11 @@ fn main(rt: HostRuntime) -> ExitCode {
     let mut err = HostSink::new(rt.stderr());
     let words = match words_of(&rt) {
         Ok(words) => words,
-        Err(fault) => return ExitCode::from(refuse(&mut err, fault)),
+        Err(fault) => return ExitCode::from(refuse(rt.alloc(), &mut err, &fault)),
     };
     let texts: Vec<&str> = match words.iter().map(|word| word.as_str()).collect(rt.alloc()) {
         Ok(texts) => texts,
-        Err(_) => return ExitCode::from(refuse(&mut err, Fault::Memory)),
+        Err(_) => return ExitCode::from(refuse(rt.alloc(), &mut err, &Fault::Memory)),
     };
     let mut files = HostFiles::new(&rt);
     let mut out = HostSink::new(rt.stdout());
@@ -32,11 +36,12 @@ fn main(rt: HostRuntime) -> ExitCode {
     ExitCode::from(status)
 }
 
-/// The words of the command line behind the program's name. Words that are no text have no reading.
+/// The words of the command line behind the program's name. Where they are no text, the first has no
+/// reading.
 fn words_of(rt: &HostRuntime) -> Result<Vec<String>, Fault> {
     match env::args(rt) {
         Ok(words) => Ok(words.skip(1).collect(rt.alloc())?),
         Err(error) if error.kind() == io::ErrorKind::OutOfMemory => Err(Fault::Memory),
-        Err(_) => Err(Fault::Usage),
+        Err(_) => Err(Fault::Usage { word: 0 }),
     }
 }

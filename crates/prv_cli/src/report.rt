@@ -188,7 +188,7 @@ fn push_word(out: &mut Vec<u8>, word: &i32) -> Result<(), AllocError>
 }
 
 /// Writes a number in decimal.
-fn push_number<I: Integer>(out: &mut Vec<u8>, n: I) -> Result<(), AllocError>
+pub fn push_number<I: Integer>(out: &mut Vec<u8>, n: I) -> Result<(), AllocError>
     ensures { OnOk result (out.new.items ≡ out.old.items ++ I.text n) }
 {
     let mut buffer = Buffer::new();

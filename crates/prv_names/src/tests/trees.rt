@@ -175,10 +175,10 @@ fn named(alloc: Global, kind: u8, name: u8, place: u32) -> Result<StmtTree, Allo
     })
 }
 
-/// The tree of these parts, if it isn't large.
+/// The tree of these parts, if it has a parameter and isn't large.
 fn small(params: Items<Ident>, body: Items<StmtTree>, skeleton: Items<Skel>) -> Option<Tree> {
     let size = size_all(body.as_slice())?;
-    if params.len() >= 1000 || size >= 100000 {
+    if params.len() == 0 || params.len() >= 1000 || size >= 100000 {
         return None;
     }
     Some(Tree {
