@@ -1,3 +1,4 @@
 pub mod WordLemmas
+pub mod WordLaws
 pub mod TermLemmas
 pub mod VerdictLaws
