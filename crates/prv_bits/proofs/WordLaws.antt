@@ -1,0 +1,41 @@
+-- What word 32 bits are, by their sign.
+use Rattle.std.proofs.Common.{◌≡◌, ℕ, zero, suc, ◌+◌, ◌-◌, ◌*◌, ◌%◌, ◌^◌, ◌<◌, ◌≤◌, Bool, true, false, ltb, not, List, [], ◌∷◌, length, ℤ, pos, negsuc, refl, sym, ap, ◌∙◌, arith, mod-eq_of_lt, lt-ltb, le-ltb}
+use Rattle.std.specs.Int.{w32, cast_unsigned, cast_signed}
+use Rattle.std.proofs.lemmas.Int.{to_z-of_z}
+use mir.ValLaws.{of_z-to_z, of_z_fits}
+use Rattle.prv_model.specs.Words.{IsWord}
+use Rattle.prv_bits.specs.Numbers.{number, word, flip, digits, bits_of}
+use Rattle.prv_bits.proofs.NumberLaws.{number-below, number-flip, number-digits, number-same}
+
+pub below-word : (bs : List Bool) → length bs ≡ 32 → number bs < 2 ^ 32
+below-word bs h = let k = ap (λ (n : ℕ). 2 ^ n) h in omega (arith, number-below bs)
+
+pub number-word : (bs : List Bool) → length bs ≡ 32 → cast_unsigned w32 (word bs) ≡ number bs
+number-word bs h = of_z-to_z w32 (number bs) (record { fits = below-word bs h })
+
+-- a word tells its bits
+pub word-same : (xs ys : List Bool) → length xs ≡ 32 → length ys ≡ 32 → word xs ≡ word ys → xs ≡ ys
+word-same xs ys h k e = number-same xs ys (h ∙ sym k) (sym (number-word xs h) ∙ ap (cast_unsigned w32) e ∙ number-word ys k)
+
+-- and has them
+pub word-digits : (k : ℕ) (z : ℤ) → k ≡ 32 → IsWord z → word (digits k (cast_unsigned w32 z)) ≡ z
+word-digits k z e h =
+    let n = cast_unsigned w32 z in
+    ap (cast_signed w32) (number-digits k n ∙ ap (λ (j : ℕ). n % 2 ^ j) e ∙ mod-eq_of_lt (of_z_fits w32 z h).fits) ∙ to_z-of_z w32 z h
+
+-- by the sign
+cast-low : (n : ℕ) → n < 2 ^ 31 → cast_signed w32 n ≡ pos n
+cast-low n h = rw (lt-ltb n (2 ^ 31) h) refl
+
+cast-high : (n f : ℕ) → 2 ^ 31 ≤ n → n + suc f ≡ 2 ^ 32 → cast_signed w32 n ≡ negsuc f
+cast-high n f h e = rw (le-ltb n (2 ^ 31) h) (ap negsuc (omega arith))
+
+pub word-positive : (bs : List Bool) → length bs ≡ 31 → word (false ∷ bs) ≡ pos (number bs)
+word-positive bs h =
+    let k = ap (λ (n : ℕ). 2 ^ n) h in
+    cast-low (number (false ∷ bs)) (omega (arith, number-below bs)) ∙ ap pos (omega arith)
+
+pub word-negative : (bs : List Bool) → length bs ≡ 31 → word (true ∷ bs) ≡ negsuc (number (flip bs))
+word-negative bs h =
+    let k = ap (λ (n : ℕ). 2 ^ n) h in
+    cast-high (number (true ∷ bs)) (number (flip bs)) (omega arith) (omega (arith, number-flip bs))
