@@ -2,3 +2,10 @@ pub mod NumberLaws
 pub mod WordLaws
 pub mod SumLaws
 pub mod OrderLaws
+pub mod ProductLaws
+pub mod DivisionSteps
+pub mod DivisionLaws
+pub mod ShiftLaws
+pub mod LogicLaws
+pub mod SignedLaws
+pub mod OperatorLaws

@@ -52,7 +52,7 @@ pub length-subtract : (xs ys : List Bool) → length xs ≡ length ys → length
 length-subtract xs ys h = length-add true xs (flip ys) (h ∙ sym (length-flip ys))
 
 -- a difference and its carry
-number-subtract : (xs ys : List Bool) → length xs ≡ length ys → bit (reaches xs ys) * 2 ^ length xs + (number (subtract xs ys) + number ys) ≡ number xs + 2 ^ length xs
+pub number-subtract : (xs ys : List Bool) → length xs ≡ length ys → bit (reaches xs ys) * 2 ^ length xs + (number (subtract xs ys) + number ys) ≡ number xs + 2 ^ length xs
 number-subtract xs ys h =
     omega (arith, number-add true xs (flip ys) (h ∙ sym (length-flip ys)), number-flip ys, ap (λ (n : ℕ). 2 ^ n) h)
 

@@ -3,9 +3,9 @@ use Rattle.std.proofs.Common.{◌≡◌, ℕ, zero, suc, ◌+◌, ◌-◌, ◌*�
 use Rattle.std.specs.Int.{w32, cast_unsigned, cast_signed}
 use Rattle.std.proofs.lemmas.Int.{to_z-of_z}
 use mir.ValLaws.{of_z-to_z, of_z_fits}
-use Rattle.prv_model.specs.Words.{IsWord}
-use Rattle.prv_bits.specs.Numbers.{number, word, flip, digits, bits_of}
-use Rattle.prv_bits.proofs.NumberLaws.{number-below, number-flip, number-digits, number-same}
+use Rattle.prv_model.specs.Words.{IsWord, is_zero}
+use Rattle.prv_bits.specs.Numbers.{number, word, flip, any, digits}
+use Rattle.prv_bits.proofs.NumberLaws.{number-below, number-flip, number-digits, number-same, any-zero, any-nonzero}
 
 pub below-word : (bs : List Bool) → length bs ≡ 32 → number bs < 2 ^ 32
 below-word bs h = let k = ap (λ (n : ℕ). 2 ^ n) h in omega (arith, number-below bs)
@@ -30,12 +30,35 @@ cast-low n h = rw (lt-ltb n (2 ^ 31) h) refl
 cast-high : (n f : ℕ) → 2 ^ 31 ≤ n → n + suc f ≡ 2 ^ 32 → cast_signed w32 n ≡ negsuc f
 cast-high n f h e = rw (le-ltb n (2 ^ 31) h) (ap negsuc (omega arith))
 
+pub word-low : (bs : List Bool) → number bs < 2 ^ 31 → word bs ≡ pos (number bs)
+word-low bs h = cast-low (number bs) h
+
+pub word-high : (bs : List Bool) → length bs ≡ 32 → 2 ^ 31 ≤ number bs → word bs ≡ negsuc (number (flip bs))
+word-high bs w h = let p = ap (λ (n : ℕ). 2 ^ n) w in cast-high (number bs) (number (flip bs)) h (omega (arith, number-flip bs))
+
 pub word-positive : (bs : List Bool) → length bs ≡ 31 → word (false ∷ bs) ≡ pos (number bs)
 word-positive bs h =
-    let k = ap (λ (n : ℕ). 2 ^ n) h in
-    cast-low (number (false ∷ bs)) (omega (arith, number-below bs)) ∙ ap pos (omega arith)
+    let p = ap (λ (n : ℕ). 2 ^ n) h in
+    word-low (false ∷ bs) (omega (arith, number-below bs)) ∙ ap pos (omega arith)
 
 pub word-negative : (bs : List Bool) → length bs ≡ 31 → word (true ∷ bs) ≡ negsuc (number (flip bs))
 word-negative bs h =
-    let k = ap (λ (n : ℕ). 2 ^ n) h in
-    cast-high (number (true ∷ bs)) (number (flip bs)) (omega arith) (omega (arith, number-flip bs))
+    let p = ap (λ (n : ℕ). 2 ^ n) h in
+    word-high (true ∷ bs) (omega arith) (omega arith) ∙ ap negsuc (omega arith)
+
+-- a word is 0 where no bit is set
+zero-from : (z : ℤ) → is_zero z ≡ true → cast_unsigned w32 z ≡ 0
+zero-from (pos zero) h = refl
+zero-from (pos (suc n)) h = cc
+zero-from (negsuc n) h = cc
+
+refuted : (b : Bool) → (b ≡ true → ⊥) → b ≡ false
+refuted true f = absurd (f refl)
+refuted false f = refl
+
+word-zero : (bs : List Bool) (t : Bool) → length bs ≡ 32 → any bs ≡ t → is_zero (word bs) ≡ not t
+word-zero bs true w h = refuted (is_zero (word bs)) (λ e. let n = sym (number-word bs w) ∙ zero-from (word bs) e in omega (arith, any-nonzero bs h))
+word-zero bs false w h = ap is_zero (ap (cast_signed w32) (any-zero bs h))
+
+pub is_zero-word : (bs : List Bool) → length bs ≡ 32 → is_zero (word bs) ≡ not (any bs)
+is_zero-word bs w = word-zero bs (any bs) w refl
