@@ -3,7 +3,6 @@ use Rattle.std.proofs.Common.{◌≡◌, ℕ, zero, suc, ◌+◌, ◌-◌, ◌*�
 use Rattle.std.specs.Cmp.{signed_Decides}
 use Rattle.std.specs.Int.{w32, cast_unsigned, cast_signed, int_shl, int_shr, int_wrap}
 use Rattle.std.proofs.lemmas.Int.{int_wrap_fits, wrapping_add-bits, wrapping_sub-bits, wrapping_mul-bits}
-use mir.ValLaws.{to_z-Fits}
 use lib.Signed.{mag_rem}
 use Rattle.prv_model.specs.Words.{wrap, flag, is_zero, amount, binary}
 use Rattle.prv_model.specs.Terms.{total}
@@ -18,7 +17,7 @@ use Rattle.prv_bits.specs.Quotients.{divided, left_over, signed_quotient, signed
 use Rattle.prv_bits.specs.Shifts.{shift_up, shift_down}
 use Rattle.prv_bits.specs.Operators.{operate, pick}
 use Rattle.prv_bits.proofs.NumberLaws.{number-below, number-flip, number-drop, length-low, length-pairwise, choose-true, choose-false, length-flip, any-zero, any-nonzero}
-use Rattle.prv_bits.proofs.WordLaws.{below-word, number-word, word-same, is_zero-word, word-low, word-high, word-positive, word-negative}
+use Rattle.prv_bits.proofs.WordLaws.{below-word, IsWord-word, number-word, word-same, is_zero-word, word-low, word-high, word-positive, word-negative}
 use Rattle.prv_bits.proofs.SumLaws.{length-add, add-is, length-subtract, subtract-is, length-negate_if}
 use Rattle.prv_bits.proofs.OrderLaws.{differ_itself, differ-false, length-flag_bits}
 use Rattle.prv_bits.proofs.ProductLaws.{length-product, product-is}
@@ -171,7 +170,7 @@ remainder-at : (xs ys : List Bool) (t : Bool) → length xs ≡ 32 → length ys
 remainder-at xs ys false h k e =
     rw (is_zero-word ys k ∙ ap not e) (ap (λ (n : ℕ). wrap (signed (sign xs) n)) (omega arith) ∙ nothing (sign xs))
 remainder-at xs ys true h k e =
-    let near : FitsSigned w32 (word xs) = to_z-Fits w32 (number xs) (record { fits = below-word xs h }) in
+    let near = IsWord-word xs h in
     let fits : FitsSigned w32 (int_rem (word xs) (word ys)) = record { sfits = lt_of_le_of_lt (mag_rem (word xs) (word ys)) near.sfits } in
     rw (is_zero-word ys k ∙ ap not e)
     (ap (λ (n : ℕ). wrap (signed (sign xs) n)) (omega arith ∙ ap₂ (λ (m n : ℕ). m % n) (magnitude-is xs h) (magnitude-is ys k))

@@ -6,7 +6,7 @@ use Rattle.std.proofs.lemmas.Nat.{mod-mul-add}
 use Rattle.prv_bits.specs.Gates.{xor, mux, parity, majority}
 use Rattle.prv_bits.specs.Numbers.{bit, number, word, zeros, flip}
 use Rattle.prv_bits.specs.Sums.{carry, add, subtract, reaches, ripple, increment, negate_if}
-use Rattle.prv_bits.proofs.NumberLaws.{number-below, number-flip, length-flip}
+use Rattle.prv_bits.proofs.NumberLaws.{number-below, number-flip, length-flip, number-same}
 
 full-adder : (a b c : Bool) → bit a + bit b + bit c ≡ bit (majority a b c) + (bit (majority a b c) + bit (parity a b c))
 full-adder true true true = refl
@@ -111,6 +111,9 @@ pub number-kept : (bs : List Bool) → number (negate_if false bs) ≡ number bs
 number-kept bs =
     ap (λ (t : List Bool). number (increment false t)) (same-bits bs)
     ∙ stays (ripple false bs) (2 ^ length bs) (number (increment false bs)) (number bs) (number-increment false bs) (number-below bs)
+
+pub kept : (bs : List Bool) → negate_if false bs ≡ bs
+kept bs = number-same (negate_if false bs) bs (length-negate_if false bs) (number-kept bs)
 
 pub number-negated : (bs : List Bool) → number (negate_if true bs) ≡ (2 ^ length bs - number bs) % 2 ^ length bs
 number-negated bs =

@@ -2,10 +2,10 @@
 use Rattle.std.proofs.Common.{◌≡◌, ℕ, zero, suc, ◌+◌, ◌-◌, ◌*◌, ◌%◌, ◌^◌, ◌<◌, ◌≤◌, Bool, true, false, ltb, not, List, [], ◌∷◌, length, ℤ, pos, negsuc, refl, sym, ap, ◌∙◌, arith, mod-eq_of_lt, lt-ltb, le-ltb}
 use Rattle.std.specs.Int.{w32, cast_unsigned, cast_signed}
 use Rattle.std.proofs.lemmas.Int.{to_z-of_z}
-use mir.ValLaws.{of_z-to_z, of_z_fits}
+use mir.ValLaws.{of_z-to_z, of_z_fits, to_z-Fits}
 use Rattle.prv_model.specs.Words.{IsWord, is_zero}
-use Rattle.prv_bits.specs.Numbers.{number, word, flip, any, digits}
-use Rattle.prv_bits.proofs.NumberLaws.{number-below, number-flip, number-digits, number-same, any-zero, any-nonzero}
+use Rattle.prv_bits.specs.Numbers.{number, word, flip, any, digits, bits_of}
+use Rattle.prv_bits.proofs.NumberLaws.{number-below, number-flip, length-digits, number-digits, number-same, any-zero, any-nonzero}
 
 pub below-word : (bs : List Bool) → length bs ≡ 32 → number bs < 2 ^ 32
 below-word bs h = let k = ap (λ (n : ℕ). 2 ^ n) h in omega (arith, number-below bs)
@@ -22,6 +22,16 @@ pub word-digits : (k : ℕ) (z : ℤ) → k ≡ 32 → IsWord z → word (digits
 word-digits k z e h =
     let n = cast_unsigned w32 z in
     ap (cast_signed w32) (number-digits k n ∙ ap (λ (j : ℕ). n % 2 ^ j) e ∙ mod-eq_of_lt (of_z_fits w32 z h).fits) ∙ to_z-of_z w32 z h
+
+pub word-bits_of : (z : ℤ) → IsWord z → word (bits_of z) ≡ z
+word-bits_of z h = word-digits 32 z refl h
+
+pub IsWord-word : (bs : List Bool) → length bs ≡ 32 → IsWord (word bs)
+IsWord-word bs h = to_z-Fits w32 (number bs) (record { fits = below-word bs h })
+
+pub bits_of-word : (bs : List Bool) → length bs ≡ 32 → bits_of (word bs) ≡ bs
+bits_of-word bs h =
+    word-same (bits_of (word bs)) bs (length-digits 32 (cast_unsigned w32 (word bs))) h (word-bits_of (word bs) (IsWord-word bs h))
 
 -- by the sign
 cast-low : (n : ℕ) → n < 2 ^ 31 → cast_signed w32 n ≡ pos n
