@@ -1,10 +1,10 @@
 -- What quotients and remainders of lists of bits are worth, and which zeros may be left out.
-use Rattle.std.proofs.Common.{◌≡◌, ◌≢◌, ℕ, zero, suc, ◌+◌, ◌-◌, ◌*◌, ◌/◌, ◌%◌, ◌^◌, ◌<◌, ◌≤◌, min, Bool, true, false, ◌&&◌, List, [], ◌∷◌, ◌++◌, length, refl, sym, ap, ap₂, ◌∙◌, arith, length-append, pow-suc, zero-le}
+use Rattle.std.proofs.Common.{◌≡◌, ℕ, suc, ◌+◌, ◌*◌, ◌/◌, ◌%◌, ◌^◌, ◌<◌, ◌≤◌, Bool, true, false, List, [], ◌∷◌, ◌++◌, length, refl, sym, ap, ap₂, ◌∙◌, arith, length-append, pow-suc, zero-le}
 use Rattle.std.proofs.lemmas.List.{length-replicate}
 use Rattle.std.proofs.lemmas.Nat.{div-mul-add, mod-mul-add}
-use Rattle.prv_bits.specs.Numbers.{bit, number, zeros, padded, gated, any}
+use Rattle.prv_bits.specs.Numbers.{bit, number, zeros, padded}
 use Rattle.prv_bits.specs.Quotients.{fits, reduce, quotient, rest, divided, left_over}
-use Rattle.prv_bits.proofs.NumberLaws.{number-append, number-zeros, number-padded, length-padded, number-gated, length-gated, number-same, any-nonzero, any-zero}
+use Rattle.prv_bits.proofs.NumberLaws.{number-append, number-zeros, number-padded, length-padded, number-gated, length-gated, number-same}
 use Rattle.prv_bits.proofs.DivisionSteps.{length-reduce, reduce-is}
 
 pub length-quotient : (d r xs : List Bool) → length (quotient d r xs) ≡ length xs

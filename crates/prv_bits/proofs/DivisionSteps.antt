@@ -1,12 +1,12 @@
 -- What one step of a division decides and leaves.
-use Rattle.std.proofs.Common.{◌≡◌, ◌⊎◌, inl, inr, ℕ, zero, suc, ◌+◌, ◌-◌, ◌*◌, ◌^◌, ◌<◌, ◌≤◌, min, Bool, true, false, ◌&&◌, ◌||◌, not, List, [], ◌∷◌, ◌++◌, length, take, drop, refl, sym, ap, ap₂, ◌∙◌, arith, leb, le-leb, leb-true, leb-false, le_of_lt}
+use Rattle.std.proofs.Common.{◌≡◌, inl, inr, ℕ, zero, suc, ◌+◌, ◌-◌, ◌*◌, ◌^◌, ◌<◌, ◌≤◌, min, Bool, true, false, ◌&&◌, ◌||◌, not, List, length, take, refl, sym, ap, ap₂, ◌∙◌, arith, leb, le-leb, leb-true, leb-false, le_of_lt}
 use borrow.Author.Tests.{lt-leb}
 use Rattle.std.proofs.lemmas.Bool.{cases_lt}
 use Rattle.prv_bits.specs.Numbers.{bit, number, low, high, choose, any}
 use Rattle.prv_bits.specs.Sums.{subtract, reaches}
 use Rattle.prv_bits.specs.Quotients.{fits, reduce}
 use Rattle.prv_bits.proofs.NumberLaws.{number-below, number-split, length-low, any-zero, any-nonzero, length-pairwise, choose-true, choose-false}
-use Rattle.prv_bits.proofs.SumLaws.{length-subtract, reaches-is, exact-subtract, number-subtract, below-add}
+use Rattle.prv_bits.proofs.SumLaws.{length-subtract, reaches-is, exact-subtract, number-subtract}
 
 split-low : (n : ℕ) (bs : List Bool) → number bs ≡ number (high n bs) * 2 ^ length (low n bs) + number (low n bs)
 split-low n bs = number-split (length bs - n) bs
@@ -25,9 +25,9 @@ at-least (suc t) p l n h e = omega arith
 -- a bit above the lowest n
 pub outside : (n : ℕ) (bs : List Bool) → any (high n bs) ≡ true → (n < length bs) × (number bs ≡ number (high n bs) * 2 ^ n + number (low n bs)) × (2 ^ n ≤ number bs)
 outside n bs h = elim (cases_lt n (length bs)) [
-  inl more ↦ let e : number bs ≡ number (high n bs) * 2 ^ n + number (low n bs) =
-    split-low n bs ∙ ap (λ (k : ℕ). number (high n bs) * 2 ^ k + number (low n bs)) (length-low n bs ∙ omega arith) in
-    (more, e, at-least (number (high n bs)) (2 ^ n) (number (low n bs)) (number bs) (any-nonzero (high n bs) h) e)
+  | inl more ↦ let e : number bs ≡ number (high n bs) * 2 ^ n + number (low n bs) =
+      split-low n bs ∙ ap (λ (k : ℕ). number (high n bs) * 2 ^ k + number (low n bs)) (length-low n bs ∙ omega arith) in
+      (more, e, at-least (number (high n bs)) (2 ^ n) (number (low n bs)) (number bs) (any-nonzero (high n bs) h) e)
   | inr less ↦ let k = none-high n bs less in cc
 ]
 

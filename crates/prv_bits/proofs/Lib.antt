@@ -9,3 +9,4 @@ pub mod ShiftLaws
 pub mod LogicLaws
 pub mod SignedLaws
 pub mod OperatorLaws
+pub mod WorkedRows

@@ -1,5 +1,5 @@
 -- What a gate at each place is worth.
-use Rattle.std.proofs.Common.{◌≡◌, ℕ, zero, suc, ◌+◌, ◌*◌, ◌^◌, ◌<◌, Bool, true, false, ◌&&◌, ◌||◌, List, [], ◌∷◌, length, refl, sym, ap, ap₂, ◌∙◌, arith, bit_and, bit_or, bit_xor}
+use Rattle.std.proofs.Common.{◌≡◌, ℕ, ◌+◌, ◌*◌, ◌^◌, ◌<◌, Bool, true, false, ◌&&◌, ◌||◌, List, [], ◌∷◌, length, refl, sym, ap, ap₂, ◌∙◌, arith, bit_and, bit_or, bit_xor}
 use Rattle.std.proofs.lemmas.Nat.{and_block, or_block, xor_block}
 use Rattle.prv_bits.specs.Gates.{xor}
 use Rattle.prv_bits.specs.Numbers.{bit, number, pairwise}
@@ -7,11 +7,11 @@ use Rattle.prv_bits.proofs.NumberLaws.{number-below, length-pairwise}
 
 -- an operation on numbers that works block by block is its gate at each place
 blocks :
-  (gate : Bool → Bool → Bool) (op : ℕ → ℕ → ℕ) →
-  op 0 0 ≡ 0 →
-  ((a b : Bool) → op (bit a) (bit b) ≡ bit (gate a b)) →
-  ((k a b r s : ℕ) → r < 2 ^ k → s < 2 ^ k → op (a * 2 ^ k + r) (b * 2 ^ k + s) ≡ op a b * 2 ^ k + op r s) →
-  (xs ys : List Bool) → length xs ≡ length ys → number (pairwise gate xs ys) ≡ op (number xs) (number ys)
+    (gate : Bool → Bool → Bool) (op : ℕ → ℕ → ℕ) →
+    op 0 0 ≡ 0 →
+    ((a b : Bool) → op (bit a) (bit b) ≡ bit (gate a b)) →
+    ((k a b r s : ℕ) → r < 2 ^ k → s < 2 ^ k → op (a * 2 ^ k + r) (b * 2 ^ k + s) ≡ op a b * 2 ^ k + op r s) →
+    (xs ys : List Bool) → length xs ≡ length ys → number (pairwise gate xs ys) ≡ op (number xs) (number ys)
 blocks gate op none one more [] [] h = sym none
 blocks gate op none one more [] (y ∷ ys) h = cc
 blocks gate op none one more (x ∷ xs) [] h = cc

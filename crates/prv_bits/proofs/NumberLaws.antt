@@ -1,9 +1,8 @@
 -- What the parts of a list of bits count.
-use Rattle.std.proofs.Common.{◌≡◌, ◌⊎◌, inl, inr, ℕ, zero, suc, ◌+◌, ◌-◌, ◌*◌, ◌/◌, ◌%◌, ◌^◌, ◌<◌, ◌≤◌, Bool, true, false, ◌&&◌, ◌||◌, not, List, [], ◌∷◌, ◌++◌, length, take, drop, replicate, map, refl, sym, ap, ◌∙◌, arith, pow-suc, pow-add, pow_pos, length-append, length-drop, length-take, take-append-drop, mul_assoc, ap₂, lit<, one-add, mod-lt, min, ◌==◌}
+use Rattle.std.proofs.Common.{◌≡◌, ℕ, zero, suc, ◌+◌, ◌-◌, ◌*◌, ◌/◌, ◌%◌, ◌^◌, ◌<◌, ◌≤◌, Bool, true, false, ◌&&◌, ◌||◌, not, List, [], ◌∷◌, ◌++◌, length, take, drop, refl, sym, ap, ◌∙◌, arith, pow-suc, pow-add, pow_pos, length-append, length-drop, length-take, take-append-drop, ap₂, lit<, one-add, mod-lt, min, ◌==◌}
 use Rattle.std.proofs.lemmas.List.{length-map, length-replicate}
 use Rattle.std.proofs.lemmas.Nat.{div-mul-add, mod-mul-add, mod-pow-add}
-use Rattle.prv_bits.specs.Gates.{xor, mux}
-use Rattle.prv_bits.specs.Numbers.{bit, number, word, zeros, padded, low, high, flip, gated, pairwise, choose, any_from, any, sign, digits}
+use Rattle.prv_bits.specs.Numbers.{bit, number, zeros, padded, low, high, flip, gated, pairwise, choose, any_from, any, digits}
 
 pub number-below : (bs : List Bool) → number bs < 2 ^ length bs
 number-below [] = omega arith

@@ -1,22 +1,21 @@
 -- The bits of each operator's value.
-use Rattle.std.proofs.Common.{◌≡◌, ℕ, zero, suc, ◌+◌, ◌-◌, ◌*◌, ◌/◌, ◌%◌, ◌^◌, ◌<◌, ◌≤◌, Bool, true, false, ◌&&◌, ◌||◌, not, if◌then◌else◌, List, [], ◌∷◌, length, ℤ, pos, negsuc, refl, sym, ap, ap₂, ◌∙◌, arith, Option, Some, None, unwrap_or, nat_abs, int_lt, int_le, int_eq, int_div, int_rem, bit_and, bit_or, bit_xor, pow_pos, div-le_self, FitsSigned, lt_of_le_of_lt}
+use Rattle.std.proofs.Common.{◌≡◌, ℕ, zero, suc, ◌+◌, ◌-◌, ◌*◌, ◌/◌, ◌%◌, ◌^◌, ◌<◌, Bool, true, false, ◌&&◌, ◌||◌, not, if◌then◌else◌, List, [], ◌∷◌, length, ℤ, pos, negsuc, refl, sym, ap, ap₂, ◌∙◌, arith, nat_abs, int_eq, int_rem, bit_and, bit_or, bit_xor, pow_pos, div-le_self, FitsSigned, lt_of_le_of_lt}
 use Rattle.std.specs.Cmp.{signed_Decides}
-use Rattle.std.specs.Int.{w32, cast_unsigned, cast_signed, int_shl, int_shr, int_wrap}
+use Rattle.std.specs.Int.{w32, cast_signed, int_shr, int_wrap}
 use Rattle.std.proofs.lemmas.Int.{int_wrap_fits, wrapping_add-bits, wrapping_sub-bits, wrapping_mul-bits}
 use lib.Signed.{mag_rem}
-use Rattle.prv_model.specs.Words.{wrap, flag, is_zero, amount, binary}
+use Rattle.prv_model.specs.Words.{wrap, flag, is_zero, amount}
 use Rattle.prv_model.specs.Terms.{total}
 use Rattle.prv_model.specs.declared.op.TermOp.{TermOp}
 use Rattle.prv_model.specs.declared.op.TermOp.TheVariants.{Add, Sub, Mul, Div, Rem, Shl, Shr, And, Or, Xor, Lt, Le, Eq, Ne}
 use Rattle.prv_bits.specs.Gates.{xor, mux}
-use Rattle.prv_bits.specs.Numbers.{bit, number, word, low, flip, pairwise, choose, any, sign}
-use Rattle.prv_bits.specs.Sums.{add, subtract, negate_if, magnitude}
+use Rattle.prv_bits.specs.Numbers.{bit, number, word, low, flip, choose, any, sign}
+use Rattle.prv_bits.specs.Sums.{magnitude}
 use Rattle.prv_bits.specs.Orders.{signed_below, differ, flag_bits}
-use Rattle.prv_bits.specs.Products.{product}
-use Rattle.prv_bits.specs.Quotients.{divided, left_over, signed_quotient, signed_remainder}
-use Rattle.prv_bits.specs.Shifts.{shift_up, shift_down}
+use Rattle.prv_bits.specs.Quotients.{divided, left_over}
+use Rattle.prv_bits.specs.Shifts.{shift_down}
 use Rattle.prv_bits.specs.Operators.{operate, pick}
-use Rattle.prv_bits.proofs.NumberLaws.{number-below, number-flip, number-drop, length-low, length-pairwise, choose-true, choose-false, length-flip, any-zero, any-nonzero}
+use Rattle.prv_bits.proofs.NumberLaws.{number-below, number-flip, number-drop, length-low, length-pairwise, choose-true, choose-false}
 use Rattle.prv_bits.proofs.WordLaws.{below-word, IsWord-word, number-word, word-same, is_zero-word, word-low, word-high, word-positive, word-negative}
 use Rattle.prv_bits.proofs.SumLaws.{length-add, add-is, length-subtract, subtract-is, length-negate_if}
 use Rattle.prv_bits.proofs.OrderLaws.{differ_itself, differ-false, length-flag_bits}
@@ -24,7 +23,7 @@ use Rattle.prv_bits.proofs.ProductLaws.{length-product, product-is}
 use Rattle.prv_bits.proofs.DivisionLaws.{length-divided, length-left_over, divided-is, left_over-is}
 use Rattle.prv_bits.proofs.ShiftLaws.{length-shift_up, shift_up-is, length-shift_down, shift_down-is, flip-shift_down}
 use Rattle.prv_bits.proofs.LogicLaws.{and-is, or-is, xor-is}
-use Rattle.prv_bits.proofs.SignedLaws.{signed, negative, sign-word, magnitude-is, word-negate_if, signed-quotient, signed-remainder, signed_below-is, not-below, word-flag_bits}
+use Rattle.prv_bits.proofs.SignedLaws.{signed, sign-word, magnitude-is, word-negate_if, signed-quotient, signed-remainder, signed_below-is, not-below, word-flag_bits}
 
 abbrev Is : TermOp → Type 0
 Is op = (xs ys : List Bool) → length xs ≡ 32 → length ys ≡ 32 → word (operate op xs ys) ≡ total op (word xs) (word ys)
@@ -68,8 +67,8 @@ shl-word : Is Shl
 shl-word xs ys h k =
     ap (cast_signed w32)
     (shift_up-is (low 5 ys) xs
-     ∙ ap (λ (m : ℕ). (number xs * 2 ^ number (low 5 ys)) % 2 ^ m) h
-     ∙ ap₂ (λ (m n : ℕ). (m * 2 ^ n) % 2 ^ 32) (sym (number-word xs h)) (amount-is 5 ys refl k))
+    ∙ ap (λ (m : ℕ). (number xs * 2 ^ number (low 5 ys)) % 2 ^ m) h
+    ∙ ap₂ (λ (m n : ℕ). (m * 2 ^ n) % 2 ^ 32) (sym (number-word xs h)) (amount-is 5 ys refl k))
 
 down-positive : (a : ℕ) (amount bs : List Bool) → number amount ≡ a → number bs < 2 ^ 31 → word (shift_down false amount bs) ≡ int_shr (pos (number bs)) a
 down-positive a amount bs e h =
@@ -154,8 +153,8 @@ quotient-at xs ys false h k e =
 quotient-at xs ys true h k e =
     rw (is_zero-word ys k ∙ ap not e)
     (ap (λ (n : ℕ). wrap (signed (xor (sign xs) (sign ys)) n)) (omega arith ∙ ap₂ (λ (m n : ℕ). m / n) (magnitude-is xs h) (magnitude-is ys k))
-     ∙ ap₂ (λ (s t : Bool). wrap (signed (xor s t) (nat_abs (word xs) / nat_abs (word ys)))) (sign-word xs h) (sign-word ys k)
-     ∙ ap wrap (signed-quotient (word xs) (word ys)))
+    ∙ ap₂ (λ (s t : Bool). wrap (signed (xor s t) (nat_abs (word xs) / nat_abs (word ys)))) (sign-word xs h) (sign-word ys k)
+    ∙ ap wrap (signed-quotient (word xs) (word ys)))
 
 div-word : Is Div
 div-word xs ys h k =
@@ -174,9 +173,9 @@ remainder-at xs ys true h k e =
     let fits : FitsSigned w32 (int_rem (word xs) (word ys)) = record { sfits = lt_of_le_of_lt (mag_rem (word xs) (word ys)) near.sfits } in
     rw (is_zero-word ys k ∙ ap not e)
     (ap (λ (n : ℕ). wrap (signed (sign xs) n)) (omega arith ∙ ap₂ (λ (m n : ℕ). m % n) (magnitude-is xs h) (magnitude-is ys k))
-     ∙ ap (λ (s : Bool). wrap (signed s (nat_abs (word xs) % nat_abs (word ys)))) (sign-word xs h)
-     ∙ ap wrap (signed-remainder (word xs) (word ys))
-     ∙ int_wrap_fits w32 (int_rem (word xs) (word ys)) fits)
+    ∙ ap (λ (s : Bool). wrap (signed s (nat_abs (word xs) % nat_abs (word ys)))) (sign-word xs h)
+    ∙ ap wrap (signed-remainder (word xs) (word ys))
+    ∙ int_wrap_fits w32 (int_rem (word xs) (word ys)) fits)
 
 rem-word : Is Rem
 rem-word xs ys h k =

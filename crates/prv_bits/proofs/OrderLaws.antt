@@ -1,8 +1,8 @@
 -- When one list of bits is below another, and when two differ.
-use Rattle.std.proofs.Common.{◌≡◌, ℕ, zero, suc, ◌+◌, ◌-◌, ◌*◌, ◌^◌, ◌<◌, ◌≤◌, Bool, true, false, not, ◌||◌, List, [], ◌∷◌, ◌++◌, length, refl, sym, ap, ◌∙◌, arith, ltb, lt-ltb, le-ltb, ltb-true, ltb-false, length-append}
+use Rattle.std.proofs.Common.{◌≡◌, ℕ, ◌-◌, ◌^◌, ◌<◌, ◌≤◌, Bool, true, false, List, [], ◌∷◌, length, refl, sym, ap, ◌∙◌, arith, ltb, lt-ltb, le-ltb, ltb-true, ltb-false, length-append}
 use Rattle.std.proofs.lemmas.List.{length-replicate}
-use Rattle.prv_bits.specs.Gates.{xor, mux}
-use Rattle.prv_bits.specs.Numbers.{bit, number, zeros, pairwise, any, any_from}
+use Rattle.prv_bits.specs.Gates.{xor}
+use Rattle.prv_bits.specs.Numbers.{bit, number, zeros, pairwise}
 use Rattle.prv_bits.specs.Orders.{below, differ, flag_bits}
 use Rattle.prv_bits.proofs.NumberLaws.{number-below, number-append, number-zeros, any_from-or}
 

@@ -1,9 +1,9 @@
 -- What products of lists of bits are worth.
-use Rattle.std.proofs.Common.{◌≡◌, ℕ, zero, suc, ◌+◌, ◌-◌, ◌*◌, ◌/◌, ◌%◌, ◌^◌, ◌<◌, ◌≤◌, Bool, true, false, List, [], ◌∷◌, ◌++◌, length, take, drop, refl, sym, ap, ap₂, ◌∙◌, arith, length-append, length-drop, length-take, pow-add, pow_pos, add-zero}
+use Rattle.std.proofs.Common.{◌≡◌, ℕ, ◌+◌, ◌*◌, ◌%◌, ◌^◌, ◌<◌, ◌≤◌, Bool, true, false, List, [], ◌∷◌, length, take, drop, sym, ap, ap₂, ◌∙◌, arith, length-append, length-drop, length-take, pow_pos, add-zero}
 use Rattle.std.proofs.Math.Nat.{add-mod, mod-mod, zero-mod}
 use Rattle.std.proofs.lemmas.List.{length-replicate}
 use Rattle.std.proofs.lemmas.Nat.{div-mul-add, mod-mul-add, mod-pow-add}
-use Rattle.prv_bits.specs.Numbers.{bit, number, zeros, gated}
+use Rattle.prv_bits.specs.Numbers.{bit, number, gated}
 use Rattle.prv_bits.specs.Sums.{add}
 use Rattle.prv_bits.specs.Products.{add_row, product}
 use Rattle.prv_bits.proofs.NumberLaws.{number-below, number-append, number-zeros, number-split, number-drop, number-gated, length-gated, number-same}

@@ -1,9 +1,9 @@
 -- What shifts of lists of bits are worth.
-use Rattle.std.proofs.Common.{◌≡◌, ℕ, zero, suc, ◌+◌, ◌-◌, ◌*◌, ◌/◌, ◌%◌, ◌^◌, ◌<◌, ◌≤◌, min, Bool, true, false, not, List, [], ◌∷◌, ◌++◌, length, map, take, drop, replicate, refl, sym, ap, ap₂, ◌∙◌, arith, length-append, length-drop, length-take, pow-add, mod-eq_of_lt, mul_assoc, div-one, mul-one}
+use Rattle.std.proofs.Common.{◌≡◌, ℕ, zero, suc, ◌+◌, ◌*◌, ◌/◌, ◌%◌, ◌^◌, Bool, true, false, not, List, [], ◌∷◌, ◌++◌, length, take, drop, replicate, refl, sym, ap, ap₂, ◌∙◌, arith, length-append, length-drop, length-take, pow-add, mod-eq_of_lt, mul_assoc, div-one}
 use Rattle.std.proofs.lemmas.List.{length-replicate, map-append, take-map}
 use Rattle.std.proofs.lemmas.Nat.{mul-mod_first, shr-shr}
 use Rattle.prv_bits.specs.Gates.{mux}
-use Rattle.prv_bits.specs.Numbers.{bit, number, zeros, flip, choose, pairwise}
+use Rattle.prv_bits.specs.Numbers.{number, zeros, flip, choose}
 use Rattle.prv_bits.specs.Shifts.{raised, lowered, shift_up, shift_down}
 use Rattle.prv_bits.proofs.NumberLaws.{number-below, number-append, number-zeros, number-drop, number-take, length-flip, length-pairwise, choose-true, choose-false}
 

@@ -1,18 +1,18 @@
 -- What signs, negatives and comparisons of words are worth.
-use Rattle.std.proofs.Common.{◌≡◌, ℕ, zero, suc, ◌+◌, ◌-◌, ◌*◌, ◌/◌, ◌%◌, ◌^◌, ◌<◌, ◌≤◌, Bool, true, false, not, ltb, leb, List, [], ◌∷◌, length, ℤ, pos, negsuc, neg_ℤ, nat_abs, int_lt, int_le, int_div, int_rem, refl, sym, ap, ap₂, ◌∙◌, arith, pow-suc, mod-eq_of_lt, le-leb, ltb-true, ltb-false}
+use Rattle.std.proofs.Common.{◌≡◌, ℕ, zero, suc, ◌-◌, ◌/◌, ◌%◌, ◌^◌, ◌<◌, Bool, true, false, not, ltb, leb, List, [], ◌∷◌, length, ℤ, pos, negsuc, neg_ℤ, nat_abs, int_lt, int_le, int_div, int_rem, refl, sym, ap, ap₂, ◌∙◌, arith, pow-suc, mod-eq_of_lt, le-leb, ltb-true, ltb-false}
 use borrow.Author.Tests.{lt-leb}
 use Rattle.std.specs.Int.{w32, cast_unsigned, cast_signed}
 use Rattle.std.specs.Int.Signed.{mag}
-use Rattle.prv_model.specs.Words.{wrap, flag, is_zero}
+use Rattle.prv_model.specs.Words.{wrap, flag}
 use Rattle.prv_model.proofs.WordLemmas.{cast-wrap}
 use Rattle.prv_bits.specs.Gates.{xor}
 use Rattle.prv_bits.specs.Numbers.{bit, number, word, flip, sign}
 use Rattle.prv_bits.specs.Sums.{negate_if, magnitude}
-use Rattle.prv_bits.specs.Orders.{below, signed_below, flag_bits}
+use Rattle.prv_bits.specs.Orders.{signed_below, flag_bits}
 use Rattle.prv_bits.proofs.NumberLaws.{number-below, number-flip, length-flip}
-use Rattle.prv_bits.proofs.WordLaws.{word-low, word-positive, word-negative, below-word}
-use Rattle.prv_bits.proofs.SumLaws.{length-negate_if, number-kept, number-negated}
-use Rattle.prv_bits.proofs.OrderLaws.{same-order, below-is, length-flag_bits, number-flag_bits}
+use Rattle.prv_bits.proofs.WordLaws.{word-positive, word-negative, below-word}
+use Rattle.prv_bits.proofs.SumLaws.{number-kept, number-negated}
+use Rattle.prv_bits.proofs.OrderLaws.{same-order, below-is, number-flag_bits}
 
 -- the number, or its negative
 abbrev pub signed : Bool → ℕ → ℤ

@@ -1,10 +1,10 @@
 -- What sums and negatives of lists of bits are worth.
-use Rattle.std.proofs.Common.{◌≡◌, ℕ, zero, suc, ◌+◌, ◌-◌, ◌*◌, ◌%◌, ◌^◌, ◌<◌, ◌≤◌, Bool, true, false, ◌&&◌, not, List, [], ◌∷◌, length, map, refl, sym, ap, ◌∙◌, arith, pow-suc, leb, le-leb, pow_pos, mod-eq_of_lt}
+use Rattle.std.proofs.Common.{◌≡◌, ℕ, suc, ◌+◌, ◌-◌, ◌*◌, ◌%◌, ◌^◌, ◌<◌, Bool, true, false, ◌&&◌, List, [], ◌∷◌, length, map, refl, sym, ap, ◌∙◌, arith, pow-suc, leb, le-leb}
 use borrow.Author.Tests.{lt-leb}
 use Rattle.std.proofs.lemmas.List.{length-map}
 use Rattle.std.proofs.lemmas.Nat.{mod-mul-add}
-use Rattle.prv_bits.specs.Gates.{xor, mux, parity, majority}
-use Rattle.prv_bits.specs.Numbers.{bit, number, word, zeros, flip}
+use Rattle.prv_bits.specs.Gates.{xor, parity, majority}
+use Rattle.prv_bits.specs.Numbers.{bit, number, flip}
 use Rattle.prv_bits.specs.Sums.{carry, add, subtract, reaches, ripple, increment, negate_if}
 use Rattle.prv_bits.proofs.NumberLaws.{number-below, number-flip, length-flip, number-same}
 

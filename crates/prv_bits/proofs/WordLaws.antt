@@ -1,5 +1,5 @@
 -- What word 32 bits are, by their sign.
-use Rattle.std.proofs.Common.{◌≡◌, ℕ, zero, suc, ◌+◌, ◌-◌, ◌*◌, ◌%◌, ◌^◌, ◌<◌, ◌≤◌, Bool, true, false, ltb, not, List, [], ◌∷◌, length, ℤ, pos, negsuc, refl, sym, ap, ◌∙◌, arith, mod-eq_of_lt, lt-ltb, le-ltb}
+use Rattle.std.proofs.Common.{◌≡◌, ℕ, zero, suc, ◌+◌, ◌%◌, ◌^◌, ◌<◌, ◌≤◌, Bool, true, false, not, List, ◌∷◌, length, ℤ, pos, negsuc, refl, sym, ap, ◌∙◌, arith, mod-eq_of_lt, lt-ltb, le-ltb}
 use Rattle.std.specs.Int.{w32, cast_unsigned, cast_signed}
 use Rattle.std.proofs.lemmas.Int.{to_z-of_z}
 use mir.ValLaws.{of_z-to_z, of_z_fits, to_z-Fits}

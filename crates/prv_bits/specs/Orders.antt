@@ -1,5 +1,5 @@
 -- Comparisons of lists of bits of one width.
-use Rattle.std.specs.Prelude.{ℕ, ◌-◌, Bool, false, not, List, [], ◌∷◌, ◌++◌}
+use Rattle.std.specs.Prelude.{ℕ, ◌-◌, Bool, false, List, [], ◌∷◌, ◌++◌}
 use Rattle.prv_bits.specs.Gates.{xor, mux}
 use Rattle.prv_bits.specs.Numbers.{zeros, pairwise, any}
 

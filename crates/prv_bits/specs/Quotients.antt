@@ -1,5 +1,5 @@
 -- Quotients and remainders of lists of bits, by restoring division.
-use Rattle.std.specs.Prelude.{ℕ, Bool, true, false, ◌&&◌, ◌||◌, not, List, [], ◌∷◌, ◌++◌, length}
+use Rattle.std.specs.Prelude.{Bool, ◌&&◌, ◌||◌, not, List, [], ◌∷◌, ◌++◌, length}
 use Rattle.prv_bits.specs.Gates.{xor}
 use Rattle.prv_bits.specs.Numbers.{low, high, gated, padded, choose, any, sign}
 use Rattle.prv_bits.specs.Sums.{subtract, reaches, negate_if, magnitude}

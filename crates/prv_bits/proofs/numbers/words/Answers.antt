@@ -1,4 +1,3 @@
-use Rattle.prv_bits.proofs.NumberLaws.{length-digits}
 use Rattle.prv_bits.proofs.WordLaws.{word-bits_of, bits_of-word, IsWord-word, is_zero-word}
 use Rattle.prv_bits.proofs.numbers.words.Goals as goal
 
