@@ -2,9 +2,11 @@
 use Rattle.std.proofs.Common.{◌≡◌, ℕ, suc, ◌+◌, ◌*◌, ◌/◌, ◌%◌, ◌^◌, ◌<◌, ◌≤◌, Bool, true, false, List, [], ◌∷◌, ◌++◌, length, refl, sym, ap, ap₂, ◌∙◌, arith, length-append, pow-suc, zero-le}
 use Rattle.std.proofs.lemmas.List.{length-replicate}
 use Rattle.std.proofs.lemmas.Nat.{div-mul-add, mod-mul-add}
-use Rattle.prv_bits.specs.Numbers.{bit, number, zeros, padded}
+use Rattle.prv_bits.specs.Numbers.{bit, number, zeros}
+use Rattle.prv_bits.specs.Places.{padded}
 use Rattle.prv_bits.specs.Quotients.{fits, reduce, quotient, rest, divided, left_over}
-use Rattle.prv_bits.proofs.NumberLaws.{number-append, number-zeros, number-padded, length-padded, number-gated, length-gated, number-same}
+use Rattle.prv_bits.proofs.NumberLaws.{number-append, number-zeros, number-padded, number-gated, length-gated, number-same}
+use Rattle.prv_bits.proofs.PlaceLaws.{length-padded}
 use Rattle.prv_bits.proofs.DivisionSteps.{length-reduce, reduce-is}
 
 pub length-quotient : (d r xs : List Bool) → length (quotient d r xs) ≡ length xs
@@ -97,8 +99,8 @@ length-divided c xs d = length-gated c (quotient d [] xs) ∙ length-quotient d 
 
 pub length-left_over : (c : Bool) (xs d : List Bool) → length (left_over c xs d) ≡ length xs
 length-left_over c xs d =
-    length-gated c (padded (length xs) (rest d [] xs))
-    ∙ length-padded (length xs) (rest d [] xs) (omega (arith, (length-rest d [] xs zero-le).1))
+    length-gated c (padded false (length xs) (rest d [] xs))
+    ∙ length-padded false (length xs) (rest d [] xs) (omega (arith, (length-rest d [] xs zero-le).1))
 
 pub divided-is : (c : Bool) (xs d : List Bool) → (c ≡ true → 0 < number d) → number (divided c xs d) ≡ bit c * (number xs / number d)
 divided-is true xs d h = number-gated true (quotient d [] xs) ∙ ap (λ (n : ℕ). 1 * n) (quotient-is d [] xs (h refl) ∙ ap (λ (n : ℕ). n / number d) (omega arith))
@@ -106,9 +108,9 @@ divided-is false xs d h = number-gated false (quotient d [] xs) ∙ omega arith
 
 pub left_over-is : (c : Bool) (xs d : List Bool) → (c ≡ true → 0 < number d) → number (left_over c xs d) ≡ bit c * (number xs % number d)
 left_over-is true xs d h =
-    number-gated true (padded (length xs) (rest d [] xs))
+    number-gated true (padded false (length xs) (rest d [] xs))
     ∙ ap (λ (n : ℕ). 1 * n) (number-padded (length xs) (rest d [] xs) ∙ rest-is d [] xs (h refl) ∙ ap (λ (n : ℕ). n % number d) (omega arith))
-left_over-is false xs d h = number-gated false (padded (length xs) (rest d [] xs)) ∙ omega arith
+left_over-is false xs d h = number-gated false (padded false (length xs) (rest d [] xs)) ∙ omega arith
 
 -- zeros that lead the dividend or the divisor may be left out
 module _ (c : Bool) (j k : ℕ) (xs d : List Bool) (h : c ≡ true → 0 < number d) where

@@ -1,11 +1,13 @@
 -- What one step of a division decides and leaves.
 use Rattle.std.proofs.Common.{◌≡◌, inl, inr, ℕ, zero, suc, ◌+◌, ◌-◌, ◌*◌, ◌^◌, ◌<◌, ◌≤◌, min, Bool, true, false, ◌&&◌, ◌||◌, not, List, length, take, refl, sym, ap, ap₂, ◌∙◌, arith, leb, le-leb, leb-true, leb-false, le_of_lt}
 use borrow.Author.Tests.{lt-leb}
-use Rattle.std.proofs.lemmas.Bool.{cases_lt}
-use Rattle.prv_bits.specs.Numbers.{bit, number, low, high, choose, any}
+use Rattle.std.proofs.lemmas.Bool.{cases_lt, false_from_ne_true}
+use Rattle.prv_bits.specs.Numbers.{bit, number, choose, any}
+use Rattle.prv_bits.specs.Places.{low, high}
 use Rattle.prv_bits.specs.Sums.{subtract, reaches}
 use Rattle.prv_bits.specs.Quotients.{fits, reduce}
-use Rattle.prv_bits.proofs.NumberLaws.{number-below, number-split, length-low, any-zero, any-nonzero, length-pairwise, choose-true, choose-false}
+use Rattle.prv_bits.proofs.PlaceLaws.{length-low}
+use Rattle.prv_bits.proofs.NumberLaws.{number-below, number-split, any-zero, any-nonzero, length-pairwise, choose-true, choose-false}
 use Rattle.prv_bits.proofs.SumLaws.{length-subtract, reaches-is, exact-subtract, number-subtract}
 
 split-low : (n : ℕ) (bs : List Bool) → number bs ≡ number (high n bs) * 2 ^ length (low n bs) + number (low n bs)
@@ -34,10 +36,6 @@ outside n bs h = elim (cases_lt n (length bs)) [
 pub length-step : (d r : List Bool) → length (low (length d) r) ≡ length (low (length r) d)
 length-step d r = length-low (length d) r ∙ sym (length-low (length r) d ∙ omega arith)
 
-refuted : (b : Bool) → (b ≡ true → ⊥) → b ≡ false
-refuted true f = absurd (f refl)
-refuted false f = refl
-
 fits-cases : (d r : List Bool) (t u : Bool) → any (high (length d) r) ≡ t → any (high (length r) d) ≡ u → (t || (not u && reaches (low (length d) r) (low (length r) d))) ≡ leb (number d) (number r)
 fits-cases d r true u e f = sym (le-leb (number d) (number r) (let far = outside (length d) r e in omega (arith, number-below d, far.2)))
 fits-cases d r false true e f = sym (lt-leb (number d) (number r) (let far = outside (length r) d f in omega (arith, number-below r, far.2)))
@@ -56,7 +54,7 @@ length-reduce d r =
 
 -- a bit above the lowest n makes the number pass n bits
 pub none-above : (n : ℕ) (bs : List Bool) → number bs < 2 ^ n → any (high n bs) ≡ false
-none-above n bs h = refuted (any (high n bs)) (λ e. let far = outside n bs e in omega (arith, far.2))
+none-above n bs h = false_from_ne_true (any (high n bs)) (λ e. let far = outside n bs e in omega (arith, far.2))
 
 once : (t p l n : ℕ) → n ≡ t * p + l → p ≤ n → n < p + p → l < p → n ≡ p + l
 once zero p l n e h k b = absurd (omega arith)

@@ -1,3 +1,4 @@
+pub mod PlaceLaws
 pub mod NumberLaws
 pub mod WordLaws
 pub mod SumLaws

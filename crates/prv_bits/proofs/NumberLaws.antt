@@ -1,8 +1,10 @@
 -- What the parts of a list of bits count.
-use Rattle.std.proofs.Common.{◌≡◌, ℕ, zero, suc, ◌+◌, ◌-◌, ◌*◌, ◌/◌, ◌%◌, ◌^◌, ◌<◌, ◌≤◌, Bool, true, false, ◌&&◌, ◌||◌, not, List, [], ◌∷◌, ◌++◌, length, take, drop, refl, sym, ap, ◌∙◌, arith, pow-suc, pow-add, pow_pos, length-append, length-drop, length-take, take-append-drop, ap₂, lit<, one-add, mod-lt, min, ◌==◌}
-use Rattle.std.proofs.lemmas.List.{length-map, length-replicate}
+use Rattle.std.proofs.Common.{◌≡◌, ℕ, zero, suc, ◌+◌, ◌-◌, ◌*◌, ◌/◌, ◌%◌, ◌^◌, ◌<◌, Bool, true, false, ◌&&◌, ◌||◌, not, List, [], ◌∷◌, ◌++◌, length, take, drop, refl, sym, ap, ◌∙◌, arith, pow-suc, pow-add, pow_pos, length-append, take-append-drop, ap₂, lit<, one-add, mod-lt, ◌==◌}
+use Rattle.std.proofs.lemmas.Bool.{false_from_ne_true}
+use Rattle.std.proofs.lemmas.List.{length-map}
 use Rattle.std.proofs.lemmas.Nat.{div-mul-add, mod-mul-add, mod-pow-add}
-use Rattle.prv_bits.specs.Numbers.{bit, number, zeros, padded, low, high, flip, gated, pairwise, choose, any_from, any, digits}
+use Rattle.prv_bits.specs.Places.{padded}
+use Rattle.prv_bits.specs.Numbers.{bit, number, zeros, flip, gated, pairwise, choose, any_from, any, digits}
 
 pub number-below : (bs : List Bool) → number bs < 2 ^ length bs
 number-below [] = omega arith
@@ -21,11 +23,8 @@ pub number-zeros : (n : ℕ) → number (zeros n) ≡ 0
 number-zeros zero = refl
 number-zeros (suc n) = omega (arith, number-zeros n)
 
-pub number-padded : (n : ℕ) (bs : List Bool) → number (padded n bs) ≡ number bs
+pub number-padded : (n : ℕ) (bs : List Bool) → number (padded false n bs) ≡ number bs
 number-padded n bs = number-append (zeros (n - length bs)) bs ∙ rw number-zeros (omega arith)
-
-pub length-padded : (n : ℕ) (bs : List Bool) → length bs ≤ n → length (padded n bs) ≡ n
-length-padded n bs h = length-append (zeros (n - length bs)) bs ∙ rw length-replicate (omega arith)
 
 pub length-flip : (bs : List Bool) → length (flip bs) ≡ length bs
 length-flip bs = length-map bs not
@@ -78,12 +77,6 @@ pub number-take : (k : ℕ) (bs : List Bool) → number (take k bs) ≡ number b
 number-take k bs =
     sym (ap (λ (n : ℕ). n / 2 ^ length (drop k bs)) (number-split k bs) ∙ div-mul-add (number (take k bs)) (2 ^ length (drop k bs)) (number (drop k bs)) (number-below (drop k bs)))
 
-pub length-low : (n : ℕ) (bs : List Bool) → length (low n bs) ≡ min n (length bs)
-length-low n bs = length-drop (length bs - n) bs ∙ omega arith
-
-pub length-high : (n : ℕ) (bs : List Bool) → length (high n bs) ≡ length bs - n
-length-high n bs = length-take (length bs - n) bs ∙ omega arith
-
 -- a number tells the bits
 pub number-same : (xs ys : List Bool) → length xs ≡ length ys → number xs ≡ number ys → xs ≡ ys
 number-same [] [] h e = refl
@@ -117,12 +110,8 @@ any-nonzero [] h = cc
 any-nonzero (true ∷ bs) h = omega (arith, pow_pos (length bs))
 any-nonzero (false ∷ bs) h = omega (arith, any-nonzero bs h)
 
-refuted : (b : Bool) → (b ≡ true → ⊥) → b ≡ false
-refuted true f = absurd (f refl)
-refuted false f = refl
-
 pub zero-any : (bs : List Bool) → number bs ≡ 0 → any bs ≡ false
-zero-any bs h = refuted (any bs) (λ e. let k = any-nonzero bs e in omega arith)
+zero-any bs h = false_from_ne_true (any bs) (λ e. let k = any-nonzero bs e in omega arith)
 
 -- the digits of a number
 pub length-digits : (k n : ℕ) → length (digits k n) ≡ k

@@ -1,5 +1,7 @@
 -- The bits of each operator's value.
 use Rattle.std.proofs.Common.{◌≡◌, ℕ, zero, suc, ◌+◌, ◌-◌, ◌*◌, ◌/◌, ◌%◌, ◌^◌, ◌<◌, Bool, true, false, ◌&&◌, ◌||◌, not, if◌then◌else◌, List, [], ◌∷◌, length, ℤ, pos, negsuc, refl, sym, ap, ap₂, ◌∙◌, arith, nat_abs, int_eq, int_rem, bit_and, bit_or, bit_xor, pow_pos, div-le_self, FitsSigned, lt_of_le_of_lt}
+use mathlib.Core.Bool.{not-not}
+use Rattle.std.proofs.lemmas.Bool.{true_from_ne_false}
 use Rattle.std.specs.Cmp.{signed_Decides}
 use Rattle.std.specs.Int.{w32, cast_signed, int_shr, int_wrap}
 use Rattle.std.proofs.lemmas.Int.{int_wrap_fits, wrapping_add-bits, wrapping_sub-bits, wrapping_mul-bits}
@@ -9,13 +11,15 @@ use Rattle.prv_model.specs.Terms.{total}
 use Rattle.prv_model.specs.declared.op.TermOp.{TermOp}
 use Rattle.prv_model.specs.declared.op.TermOp.TheVariants.{Add, Sub, Mul, Div, Rem, Shl, Shr, And, Or, Xor, Lt, Le, Eq, Ne}
 use Rattle.prv_bits.specs.Gates.{xor, mux}
-use Rattle.prv_bits.specs.Numbers.{bit, number, word, low, flip, choose, any, sign}
+use Rattle.prv_bits.specs.Places.{low}
+use Rattle.prv_bits.specs.Numbers.{bit, number, word, flip, choose, any, sign}
 use Rattle.prv_bits.specs.Sums.{magnitude}
 use Rattle.prv_bits.specs.Orders.{signed_below, differ, flag_bits}
 use Rattle.prv_bits.specs.Quotients.{divided, left_over}
 use Rattle.prv_bits.specs.Shifts.{shift_down}
 use Rattle.prv_bits.specs.Operators.{operate, pick}
-use Rattle.prv_bits.proofs.NumberLaws.{number-below, number-flip, number-drop, length-low, length-pairwise, choose-true, choose-false}
+use Rattle.prv_bits.proofs.PlaceLaws.{length-low}
+use Rattle.prv_bits.proofs.NumberLaws.{number-below, number-flip, number-drop, length-pairwise, choose-true, choose-false}
 use Rattle.prv_bits.proofs.WordLaws.{below-word, IsWord-word, number-word, word-same, is_zero-word, word-low, word-high, word-positive, word-negative}
 use Rattle.prv_bits.proofs.SumLaws.{length-add, add-is, length-subtract, subtract-is, length-negate_if}
 use Rattle.prv_bits.proofs.OrderLaws.{differ_itself, differ-false, length-flag_bits}
@@ -113,19 +117,11 @@ lt-word xs ys h k = flagged (length xs) _ _ (signed_below-is xs ys h k)
 le-word : Is Le
 le-word xs ys h k = flagged (length xs) _ _ (ap not (signed_below-is ys xs k h) ∙ not-below (word xs) (word ys))
 
-apart : (b : Bool) → (b ≡ false → ⊥) → b ≡ true
-apart true f = refl
-apart false f = absurd (f refl)
-
 differ-is : (xs ys : List Bool) (t : Bool) → length xs ≡ 32 → length ys ≡ 32 → int_eq (word xs) (word ys) ≡ t → differ xs ys ≡ not t
 differ-is xs ys true h k e =
     ap (differ xs) (sym (word-same xs ys h k ((signed_Decides (word xs) (word ys)).0 e))) ∙ differ_itself xs
 differ-is xs ys false h k e =
-    apart (differ xs ys) (λ f. let same = (signed_Decides (word xs) (word ys)).1 (ap word (differ-false xs ys (h ∙ sym k) f)) in cc)
-
-not-not : (b : Bool) → not (not b) ≡ b
-not-not true = refl
-not-not false = refl
+    true_from_ne_false (differ xs ys) (λ f. let same = (signed_Decides (word xs) (word ys)).1 (ap word (differ-false xs ys (h ∙ sym k) f)) in cc)
 
 eq-word : Is Eq
 eq-word xs ys h k = flagged (length xs) _ _ (ap not (differ-is xs ys (int_eq (word xs) (word ys)) h k refl) ∙ not-not (int_eq (word xs) (word ys)))

@@ -1,24 +1,20 @@
 -- What shifts of lists of bits are worth.
-use Rattle.std.proofs.Common.{◌≡◌, ℕ, zero, suc, ◌+◌, ◌*◌, ◌/◌, ◌%◌, ◌^◌, Bool, true, false, not, List, [], ◌∷◌, ◌++◌, length, take, drop, replicate, refl, sym, ap, ap₂, ◌∙◌, arith, length-append, length-drop, length-take, pow-add, mod-eq_of_lt, mul_assoc, div-one}
-use Rattle.std.proofs.lemmas.List.{length-replicate, map-append, take-map}
+use Rattle.std.proofs.Common.{◌≡◌, ℕ, ◌+◌, ◌*◌, ◌/◌, ◌%◌, ◌^◌, Bool, true, false, not, List, [], ◌∷◌, ◌++◌, length, drop, refl, sym, ap, ap₂, ◌∙◌, arith, length-append, length-drop, pow-add, mod-eq_of_lt, mul_assoc, div-one}
+use Rattle.std.proofs.lemmas.List.{length-replicate}
 use Rattle.std.proofs.lemmas.Nat.{mul-mod_first, shr-shr}
 use Rattle.prv_bits.specs.Gates.{mux}
 use Rattle.prv_bits.specs.Numbers.{number, zeros, flip, choose}
-use Rattle.prv_bits.specs.Shifts.{raised, lowered, shift_up, shift_down}
-use Rattle.prv_bits.proofs.NumberLaws.{number-below, number-append, number-zeros, number-drop, number-take, length-flip, length-pairwise, choose-true, choose-false}
+use Rattle.prv_bits.specs.Places.{raised, lowered}
+use Rattle.prv_bits.specs.Shifts.{shift_up, shift_down}
+use Rattle.prv_bits.proofs.PlaceLaws.{length-raised, length-lowered, map-lowered}
+use Rattle.prv_bits.proofs.NumberLaws.{number-below, number-append, number-zeros, number-drop, number-take, length-pairwise, choose-true, choose-false}
 
 -- one stage
-pub length-raised : (k : ℕ) (bs : List Bool) → length (raised k bs) ≡ length bs
-length-raised k bs = length-drop k (bs ++ zeros k) ∙ omega (arith, length-append bs (zeros k), length-replicate k false)
-
-pub raised-is : (k : ℕ) (bs : List Bool) → number (raised k bs) ≡ (number bs * 2 ^ k) % 2 ^ length bs
+pub raised-is : (k : ℕ) (bs : List Bool) → number (raised false k bs) ≡ (number bs * 2 ^ k) % 2 ^ length bs
 raised-is k bs =
     let whole : number (bs ++ zeros k) ≡ number bs * 2 ^ k =
     number-append bs (zeros k) ∙ omega (arith, number-zeros k, ap (λ (n : ℕ). number bs * 2 ^ n) (length-replicate k false)) in
-    number-drop k (bs ++ zeros k) ∙ ap₂ (λ (m n : ℕ). m % 2 ^ n) whole (length-raised k bs)
-
-pub length-lowered : (s : Bool) (k : ℕ) (bs : List Bool) → length (lowered s k bs) ≡ length bs
-length-lowered s k bs = length-take (length bs) (replicate k s ++ bs) ∙ omega (arith, length-append (replicate k s) bs)
+    number-drop k (bs ++ zeros k) ∙ ap₂ (λ (m n : ℕ). m % 2 ^ n) whole (length-raised false k bs)
 
 pub lowered-is : (k : ℕ) (bs : List Bool) → number (lowered false k bs) ≡ number bs / 2 ^ k
 lowered-is k bs =
@@ -31,8 +27,8 @@ pub length-shift_up : (amount bs : List Bool) → length (shift_up amount bs) �
 length-shift_up [] bs = refl
 length-shift_up (k ∷ amount) bs =
     let moved = shift_up amount bs in
-    length-pairwise (mux k) (raised (2 ^ length amount) moved) moved (length-raised (2 ^ length amount) moved)
-    ∙ length-raised (2 ^ length amount) moved ∙ length-shift_up amount bs
+    length-pairwise (mux k) (raised false (2 ^ length amount) moved) moved (length-raised false (2 ^ length amount) moved)
+    ∙ length-raised false (2 ^ length amount) moved ∙ length-shift_up amount bs
 
 further : (n a s p : ℕ) → (((n * 2 ^ a) % p) * 2 ^ s) % p ≡ (n * 2 ^ (1 * s + a)) % p
 further n a s p =
@@ -44,12 +40,12 @@ shift_up-is [] bs = sym (ap (λ (m : ℕ). m % 2 ^ length bs) (omega arith) ∙ 
 shift_up-is (true ∷ amount) bs =
     let moved = shift_up amount bs in
     let s = 2 ^ length amount in
-    ap number (choose-true (raised s moved) moved (length-raised s moved)) ∙ raised-is s moved
+    ap number (choose-true (raised false s moved) moved (length-raised false s moved)) ∙ raised-is s moved
     ∙ ap₂ (λ (m n : ℕ). (m * 2 ^ s) % 2 ^ n) (shift_up-is amount bs) (length-shift_up amount bs) ∙ further (number bs) (number amount) s (2 ^ length bs)
 shift_up-is (false ∷ amount) bs =
     let moved = shift_up amount bs in
     let s = 2 ^ length amount in
-    ap number (choose-false (raised s moved) moved (length-raised s moved)) ∙ shift_up-is amount bs
+    ap number (choose-false (raised false s moved) moved (length-raised false s moved)) ∙ shift_up-is amount bs
     ∙ ap (λ (m : ℕ). (number bs * 2 ^ m) % 2 ^ length bs) (omega arith)
 
 pub length-shift_down : (s : Bool) (amount bs : List Bool) → length (shift_down s amount bs) ≡ length bs
@@ -73,15 +69,6 @@ shift_down-is (false ∷ amount) bs =
     ∙ ap (λ (m : ℕ). number bs / 2 ^ m) (omega arith)
 
 -- copies of a set sign are zeros the other way
-flip-replicate : (k : ℕ) → flip (replicate k true) ≡ zeros k
-flip-replicate zero = refl
-flip-replicate (suc k) = ap (λ (t : List Bool). false ∷ t) (flip-replicate k)
-
-flip-lowered : (k : ℕ) (bs : List Bool) → flip (lowered true k bs) ≡ lowered false k (flip bs)
-flip-lowered k bs =
-    sym (take-map not (length bs) (replicate k true ++ bs))
-    ∙ ap₂ (λ (n : ℕ) (t : List Bool). take n t) (sym (length-flip bs)) (map-append not (replicate k true) bs ∙ ap (λ (t : List Bool). t ++ flip bs) (flip-replicate k))
-
 flip-choose : (c : Bool) (xs ys : List Bool) → flip (choose c xs ys) ≡ choose c (flip xs) (flip ys)
 flip-choose c [] ys = refl
 flip-choose c (x ∷ xs) [] = refl
@@ -95,5 +82,5 @@ flip-shift_down (k ∷ amount) bs =
     let s = 2 ^ length amount in
     let later : flip moved ≡ shift_down false amount (flip bs) = flip-shift_down amount bs in
     flip-choose k (lowered true s moved) moved
-    ∙ ap (λ (t : List Bool). choose k t (flip moved)) (flip-lowered s moved)
+    ∙ ap (λ (t : List Bool). choose k t (flip moved)) (map-lowered not true s moved)
     ∙ ap (λ (t : List Bool). choose k (lowered false s t) t) later

@@ -1,5 +1,6 @@
 -- What word 32 bits are, by their sign.
 use Rattle.std.proofs.Common.{◌≡◌, ℕ, zero, suc, ◌+◌, ◌%◌, ◌^◌, ◌<◌, ◌≤◌, Bool, true, false, not, List, ◌∷◌, length, ℤ, pos, negsuc, refl, sym, ap, ◌∙◌, arith, mod-eq_of_lt, lt-ltb, le-ltb}
+use Rattle.std.proofs.lemmas.Bool.{false_from_ne_true}
 use Rattle.std.specs.Int.{w32, cast_unsigned, cast_signed}
 use Rattle.std.proofs.lemmas.Int.{to_z-of_z}
 use mir.ValLaws.{of_z-to_z, of_z_fits, to_z-Fits}
@@ -62,12 +63,8 @@ zero-from (pos zero) h = refl
 zero-from (pos (suc n)) h = cc
 zero-from (negsuc n) h = cc
 
-refuted : (b : Bool) → (b ≡ true → ⊥) → b ≡ false
-refuted true f = absurd (f refl)
-refuted false f = refl
-
 word-zero : (bs : List Bool) (t : Bool) → length bs ≡ 32 → any bs ≡ t → is_zero (word bs) ≡ not t
-word-zero bs true w h = refuted (is_zero (word bs)) (λ e. let n = sym (number-word bs w) ∙ zero-from (word bs) e in omega (arith, any-nonzero bs h))
+word-zero bs true w h = false_from_ne_true (is_zero (word bs)) (λ e. let n = sym (number-word bs w) ∙ zero-from (word bs) e in omega (arith, any-nonzero bs h))
 word-zero bs false w h = ap is_zero (ap (cast_signed w32) (any-zero bs h))
 
 pub is_zero-word : (bs : List Bool) → length bs ≡ 32 → is_zero (word bs) ≡ not (any bs)

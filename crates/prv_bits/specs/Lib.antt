@@ -1,4 +1,5 @@
 pub mod Gates
+pub mod Places
 pub mod Numbers
 pub mod Sums
 pub mod Orders

@@ -1,5 +1,5 @@
 -- Lists of bits as numbers and as words, the highest bit first.
-use Rattle.std.specs.Prelude.{ℕ, zero, suc, ◌+◌, ◌-◌, ◌*◌, ◌/◌, ◌%◌, ◌^◌, Bool, true, false, ◌&&◌, ◌||◌, not, ◌==◌, List, [], ◌∷◌, ◌++◌, length, map, take, drop, replicate, ℤ}
+use Rattle.std.specs.Prelude.{ℕ, zero, suc, ◌+◌, ◌*◌, ◌/◌, ◌%◌, ◌^◌, Bool, true, false, ◌&&◌, ◌||◌, not, ◌==◌, List, [], ◌∷◌, length, map, replicate, ℤ}
 use Rattle.std.specs.Int.{w32, cast_unsigned, cast_signed}
 use Rattle.prv_bits.specs.Gates.{mux}
 
@@ -29,17 +29,6 @@ bits_of z = digits 32 (cast_unsigned w32 z)
 -- so many bits, none of them set
 abbrev pub zeros : ℕ → List Bool
 zeros n = replicate n false
-
--- the bits with zeros before them, n in all
-abbrev pub padded : ℕ → List Bool → List Bool
-padded n bs = zeros (n - length bs) ++ bs
-
--- the lowest n bits, and those above them
-abbrev pub low : ℕ → List Bool → List Bool
-low n bs = drop (length bs - n) bs
-
-abbrev pub high : ℕ → List Bool → List Bool
-high n bs = take (length bs - n) bs
 
 -- every bit the other way
 abbrev pub flip : List Bool → List Bool

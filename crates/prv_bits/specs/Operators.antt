@@ -3,7 +3,8 @@ use Rattle.std.specs.Prelude.{Bool, false, ◌&&◌, ◌||◌, not, List, length
 use Rattle.prv_model.specs.declared.op.TermOp.{TermOp}
 use Rattle.prv_model.specs.declared.op.TermOp.TheVariants.{Add, Sub, Mul, Div, Rem, Shl, Shr, And, Or, Xor, Lt, Le, Eq, Ne}
 use Rattle.prv_bits.specs.Gates.{xor}
-use Rattle.prv_bits.specs.Numbers.{low, pairwise, choose, any, sign}
+use Rattle.prv_bits.specs.Places.{low}
+use Rattle.prv_bits.specs.Numbers.{pairwise, choose, any, sign}
 use Rattle.prv_bits.specs.Sums.{add, subtract}
 use Rattle.prv_bits.specs.Orders.{signed_below, differ, flag_bits}
 use Rattle.prv_bits.specs.Products.{product}

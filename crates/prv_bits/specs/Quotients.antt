@@ -1,7 +1,8 @@
 -- Quotients and remainders of lists of bits, by restoring division.
-use Rattle.std.specs.Prelude.{Bool, ◌&&◌, ◌||◌, not, List, [], ◌∷◌, ◌++◌, length}
+use Rattle.std.specs.Prelude.{Bool, false, ◌&&◌, ◌||◌, not, List, [], ◌∷◌, ◌++◌, length}
 use Rattle.prv_bits.specs.Gates.{xor}
-use Rattle.prv_bits.specs.Numbers.{low, high, gated, padded, choose, any, sign}
+use Rattle.prv_bits.specs.Places.{low, high, padded}
+use Rattle.prv_bits.specs.Numbers.{gated, choose, any, sign}
 use Rattle.prv_bits.specs.Sums.{subtract, reaches, negate_if, magnitude}
 
 -- r is not below d, whichever of the two has more bits
@@ -27,7 +28,7 @@ abbrev pub divided : Bool → List Bool → List Bool → List Bool
 divided c xs d = gated c (quotient d [] xs)
 
 abbrev pub left_over : Bool → List Bool → List Bool → List Bool
-left_over c xs d = gated c (padded (length xs) (rest d [] xs))
+left_over c xs d = gated c (padded false (length xs) (rest d [] xs))
 
 -- the quotient of words, rounded toward zero
 abbrev pub signed_quotient : List Bool → List Bool → List Bool
