@@ -1,26 +1,26 @@
 -- The bits of each operator's value.
-use Rattle.std.proofs.Common.{◌≡◌, ℕ, zero, suc, ◌+◌, ◌-◌, ◌*◌, ◌/◌, ◌%◌, ◌^◌, ◌<◌, Bool, true, false, ◌&&◌, ◌||◌, not, if◌then◌else◌, List, [], ◌∷◌, length, ℤ, pos, negsuc, refl, sym, ap, ap₂, ◌∙◌, arith, nat_abs, int_eq, int_rem, bit_and, bit_or, bit_xor, pow_pos, div-le_self, FitsSigned, lt_of_le_of_lt}
+use Rattle.std.proofs.Common.{◌≡◌, ℕ, zero, suc, ◌+◌, ◌-◌, ◌*◌, ◌/◌, ◌%◌, ◌^◌, ◌<◌, Bool, true, false, ◌&&◌, ◌||◌, not, if◌then◌else◌, List, [], ◌∷◌, length, ℤ, pos, negsuc, refl, sym, ap, ap₂, subst, ◌∙◌, arith, nat_abs, int_eq, int_rem, bit_and, bit_or, bit_xor, pow_pos, div-le_self, FitsSigned, lt_of_le_of_lt}
 use mathlib.Core.Bool.{not-not}
 use Rattle.std.proofs.lemmas.Bool.{true_from_ne_false}
 use Rattle.std.specs.Cmp.{signed_Decides}
-use Rattle.std.specs.Int.{w32, cast_signed, int_shr, int_wrap}
+use Rattle.std.specs.Int.{w32, cast_unsigned, cast_signed, int_shr, int_wrap}
 use Rattle.std.proofs.lemmas.Int.{int_wrap_fits, wrapping_add-bits, wrapping_sub-bits, wrapping_mul-bits}
 use lib.Signed.{mag_rem}
-use Rattle.prv_model.specs.Words.{wrap, flag, is_zero, amount}
+use Rattle.prv_model.specs.Words.{IsWord, wrap, flag, is_zero, amount}
 use Rattle.prv_model.specs.Terms.{total}
 use Rattle.prv_model.specs.declared.op.TermOp.{TermOp}
 use Rattle.prv_model.specs.declared.op.TermOp.TheVariants.{Add, Sub, Mul, Div, Rem, Shl, Shr, And, Or, Xor, Lt, Le, Eq, Ne}
 use Rattle.prv_bits.specs.Gates.{xor, mux}
 use Rattle.prv_bits.specs.Places.{low}
-use Rattle.prv_bits.specs.Numbers.{bit, number, word, flip, choose, any, sign}
+use Rattle.prv_bits.specs.Numbers.{bit, number, word, bits_of, flip, choose, any, sign}
 use Rattle.prv_bits.specs.Sums.{magnitude}
 use Rattle.prv_bits.specs.Orders.{signed_below, differ, flag_bits}
 use Rattle.prv_bits.specs.Quotients.{divided, left_over}
 use Rattle.prv_bits.specs.Shifts.{shift_down}
 use Rattle.prv_bits.specs.Operators.{operate, pick}
 use Rattle.prv_bits.proofs.PlaceLaws.{length-low}
-use Rattle.prv_bits.proofs.NumberLaws.{number-below, number-flip, number-drop, length-pairwise, choose-true, choose-false}
-use Rattle.prv_bits.proofs.WordLaws.{below-word, IsWord-word, number-word, word-same, is_zero-word, word-low, word-high, word-positive, word-negative}
+use Rattle.prv_bits.proofs.NumberLaws.{number-below, number-flip, number-drop, length-digits, length-pairwise, choose-true, choose-false}
+use Rattle.prv_bits.proofs.WordLaws.{below-word, IsWord-word, word-bits_of, number-word, word-same, is_zero-word, word-low, word-high, word-positive, word-negative}
 use Rattle.prv_bits.proofs.SumLaws.{length-add, add-is, length-subtract, subtract-is, length-negate_if}
 use Rattle.prv_bits.proofs.OrderLaws.{differ_itself, differ-false, length-flag_bits}
 use Rattle.prv_bits.proofs.ProductLaws.{length-product, product-is}
@@ -214,6 +214,15 @@ word-operate Lt = lt-word
 word-operate Le = le-word
 word-operate Eq = eq-word
 word-operate Ne = ne-word
+
+of-bits : (op : TermOp) (a b : ℤ) (xs ys : List Bool) → length xs ≡ 32 → length ys ≡ 32 → word xs ≡ a → word ys ≡ b → IsWord (total op a b)
+of-bits op a b xs ys h k e f =
+    let w : length (operate op xs ys) ≡ 32 = length-operate op xs ys (h ∙ sym k) (omega arith) ∙ h in
+    subst IsWord (word-operate op xs ys h k ∙ ap₂ (total op) e f) (IsWord-word (operate op xs ys) w)
+
+-- so each value is a word
+pub IsWord-total : (op : TermOp) (a b : ℤ) → IsWord a → IsWord b → IsWord (total op a b)
+IsWord-total op a b h k = of-bits op a b (bits_of a) (bits_of b) (length-digits 32 (cast_unsigned w32 a)) (length-digits 32 (cast_unsigned w32 b)) (word-bits_of a h) (word-bits_of b k)
 
 -- the choice
 pub length-pick : (cs xs ys : List Bool) → length xs ≡ length ys → length (pick cs xs ys) ≡ length xs

@@ -1,5 +1,5 @@
 //! Quotients and remainders.
-ghost use Rattle.std.specs.Prelude.{◌≡◌, ◌+◌, ◌*◌, ◌/◌, ◌%◌, ◌^◌, ◌<◌, ℕ, Bool, true, List, ◌++◌, length};
+ghost use Rattle.std.specs.Prelude.{◌≡◌, ◌+◌, ◌*◌, ◌/◌, ◌%◌, ◌^◌, ◌<◌, ℕ, Bool, true, List, [], ◌++◌, length};
 ghost use Rattle.prv_bits.specs.Numbers.{bit, number, zeros};
 ghost use Rattle.prv_bits.specs.Quotients.{quotient, rest, divided, left_over};
 
@@ -14,8 +14,11 @@ pub fn division()
     ensures left_over { (c : Bool) (xs d : List Bool) → (c ≡ true → 0 < number d) → number (left_over c xs d) ≡ bit c * (number xs % number d) }
 {}
 
-/// Zeros that lead the dividend or the divisor may be left out of a division: they lead both answers.
+/// Zeros that lead the dividend or the divisor may be left out of a division: those of the dividend lead
+/// both answers.
 pub fn leading_zeros()
+    ensures quotient { (k : ℕ) (d xs : List Bool) → 0 < number d → quotient d [] (zeros k ++ xs) ≡ zeros k ++ quotient d [] xs }
+    ensures rest { (k : ℕ) (d xs : List Bool) → 0 < number d → number (rest d [] (zeros k ++ xs)) ≡ number (rest d [] xs) }
     ensures divided { (c : Bool) (j k : ℕ) (xs d : List Bool) → (c ≡ true → 0 < number d) → divided c (zeros k ++ xs) (zeros j ++ d) ≡ zeros k ++ divided c xs d }
     ensures left_over { (c : Bool) (j k : ℕ) (xs d : List Bool) → (c ≡ true → 0 < number d) → left_over c (zeros k ++ xs) (zeros j ++ d) ≡ zeros k ++ left_over c xs d }
 {}
