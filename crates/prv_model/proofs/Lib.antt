@@ -3,3 +3,4 @@ pub mod WordLaws
 pub mod ProgramLemmas
 pub mod TermLemmas
 pub mod VerdictLaws
+pub mod OrderLemmas

@@ -4,5 +4,6 @@ pub mod Statements
 pub mod Programs
 pub mod Outcomes
 pub mod Terms
+pub mod TermOrder
 pub mod Comparison
 pub mod Boards

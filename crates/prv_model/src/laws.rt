@@ -1,9 +1,12 @@
 //! Laws of the definitions, each the contract of a function that does nothing.
 ghost use Rattle.std.specs.Prelude.{◌≡◌, ◌≢◌, ◌↔◌, ◌⊎◌, ℕ, ℤ, List, All};
+ghost use Rattle.std.specs.Cmp.{IsTotalOrder};
 ghost use Rattle.prv_model.specs.Words.{IsWord};
 ghost use Rattle.prv_model.specs.Terms.{term_value, IsTerm};
 ghost use Rattle.prv_model.specs.declared.term.Term.{Term};
+ghost use Rattle.prv_model.specs.TermOrder.{term_cmp};
 ghost use Rattle.prv_model.specs.Comparison.{compare};
+ghost use Rattle.std.specs.declared.cmp.Ordering.TheVariants.{Equal};
 ghost use Rattle.prv_model.specs.declared.outcome.Outcome.{Outcome};
 ghost use Rattle.prv_model.specs.declared.outcome.Ending.TheVariants.{Long};
 ghost use Rattle.prv_model.specs.declared.verdict.Verdict.TheVariants.{Beyond, Same, Differ};
@@ -19,4 +22,10 @@ pub fn one_verdict()
 /// A term over some parameters has a word for its value on each input of words.
 pub fn term_has_a_word()
     ensures { (n : ℕ) (t : Term) (x : List ℤ) → IsTerm n t → All IsWord x → IsWord (term_value t x) }
+{}
+
+/// The order of terms is total, and two terms are equal in it exactly where they are one.
+pub fn terms_are_ordered()
+    ensures total { IsTotalOrder term_cmp }
+    ensures equal { (a b : Term) → (term_cmp a b ≡ Equal) ↔ (a ≡ b) }
 {}

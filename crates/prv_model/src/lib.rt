@@ -13,6 +13,7 @@ mod laws;
 mod limits;
 mod name;
 mod op;
+mod order;
 mod outcome;
 mod program;
 mod same;
@@ -28,7 +29,7 @@ pub use boards::places;
 pub use entry::{Entry, Kind, Reason};
 pub use expr::Expr;
 pub use input::Input;
-pub use laws::{one_verdict, term_has_a_word};
+pub use laws::{one_verdict, term_has_a_word, terms_are_ordered};
 pub use limits::{
     MAX_FILE, MAX_NAME, MAX_OPEN, MAX_OPERATORS, MAX_PARAMS, MAX_STMTS, MAX_TURNS, MAX_VARS,
 };

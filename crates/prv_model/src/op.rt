@@ -35,7 +35,7 @@ pub enum BinOp {
 }
 
 /// An operator of a term, which has a value on every two words.
-#[derive(Clone, Copy, Debug, PartialEq, Eq)]
+#[derive(Clone, Copy, Debug, PartialEq, Eq, Hash)]
 pub enum TermOp {
     Add,
     Sub,
