@@ -2,5 +2,6 @@ pub mod WordLemmas
 pub mod WordLaws
 pub mod ProgramLemmas
 pub mod TermLemmas
+pub mod NumberLaws
 pub mod VerdictLaws
 pub mod OrderLemmas
