@@ -1,3 +1,5 @@
 pub mod WordLemmas
+pub mod WordLaws
+pub mod ProgramLemmas
 pub mod TermLemmas
 pub mod VerdictLaws

@@ -1,4 +1,4 @@
--- What an expression is worth in a state, which has one word for each variable.
+-- The value of an expression in a state, which has one word for each variable.
 -- `&&`, `||` and `?:` evaluate only what they need (ISO/IEC 9899:1999, 6.5.13 to 6.5.15).
 use Rattle.std.specs.Prelude.{List, Option, Some, ℤ, pos, if◌then◌else◌, slice_get}
 use Rattle.std.specs.Option.{option_map, option_and_then}

@@ -1,6 +1,8 @@
 -- What a program and a pair keep.
 use Rattle.std.specs.Prelude.{◌≡◌, ℕ, ◌+◌, ◌≤◌, Bool, true, ◌&&◌, List, length, Option, Some, None, nat_lt, map, sum}
 use Rattle.std.specs.List.{list_all}
+use Rattle.prv_model.specs.Words.{is_word}
+use Rattle.prv_model.specs.declared.limits.TheConstants.{MAX_PARAMS, MAX_VARS, MAX_STMTS, MAX_TURNS}
 use Rattle.prv_model.specs.declared.expr.Expr.{Expr}
 use Rattle.prv_model.specs.declared.expr.Expr.TheOpen.{Expr-F}
 use Rattle.prv_model.specs.declared.expr.Expr.TheFolds.{fold-Expr}
@@ -8,17 +10,17 @@ use Rattle.prv_model.specs.declared.stmt.Stmt.{Stmt}
 use Rattle.prv_model.specs.declared.stmt.Stmt.TheOpen.{Stmt-F}
 use Rattle.prv_model.specs.declared.stmt.Stmt.TheFolds.{fold-Stmt}
 
--- one node of an expression, with whether the variables of each child are below n in its place
-abbrev pub node_reads_below : ℕ → Expr-F Bool → Bool
-node_reads_below n (Expr-F.Num w) = true
-node_reads_below n (Expr-F.Var v) = nat_lt v n
-node_reads_below n (Expr-F.Un op a) = a
-node_reads_below n (Expr-F.Bin op a b) = a && b
-node_reads_below n (Expr-F.Pick test chosen other) = test && (chosen && other)
+-- one node of an expression, with the test of each child in its place
+abbrev pub node_expr_over : ℕ → Expr-F Bool → Bool
+node_expr_over n (Expr-F.Num w) = is_word w
+node_expr_over n (Expr-F.Var v) = nat_lt v n
+node_expr_over n (Expr-F.Un op a) = a
+node_expr_over n (Expr-F.Bin op a b) = a && b
+node_expr_over n (Expr-F.Pick test chosen other) = test && (chosen && other)
 
--- each variable of an expression is below n
-abbrev pub reads_below : ℕ → Expr → Bool
-reads_below n = fold-Expr Bool (node_reads_below n)
+-- an expression over n variables: each variable in it is below n, and each numeral is a word
+abbrev pub expr_over : ℕ → Expr → Bool
+expr_over n = fold-Expr Bool (node_expr_over n)
 
 -- each test that is there was passed
 abbrev pub passed : Option Bool → Bool
@@ -29,21 +31,21 @@ passed (Some b) = b
 abbrev pub all_true : List Bool → Bool
 all_true = list_all (λ b. b)
 
--- one node of a statement, likewise
-abbrev pub node_is_below : ℕ → Stmt-F Bool → Bool
-node_is_below n Stmt-F.Skip = true
-node_is_below n (Stmt-F.Set var e) = nat_lt var n && reads_below n e
-node_is_below n (Stmt-F.If test chosen other) = reads_below n test && (chosen && passed other)
-node_is_below n (Stmt-F.While test body) = reads_below n test && body
-node_is_below n (Stmt-F.Return e) = reads_below n e
-node_is_below n (Stmt-F.Out e) = reads_below n e
-node_is_below n (Stmt-F.Assert e) = reads_below n e
-node_is_below n (Stmt-F.Block all) = all_true all
-node_is_below n (Stmt-F.Marked mark body) = body
+-- one node of a statement, with the test of each child in its place
+abbrev pub node_stmt_over : ℕ → Stmt-F Bool → Bool
+node_stmt_over n Stmt-F.Skip = true
+node_stmt_over n (Stmt-F.Set var e) = nat_lt var n && expr_over n e
+node_stmt_over n (Stmt-F.If test chosen other) = expr_over n test && (chosen && passed other)
+node_stmt_over n (Stmt-F.While test body) = expr_over n test && body
+node_stmt_over n (Stmt-F.Return e) = expr_over n e
+node_stmt_over n (Stmt-F.Out e) = expr_over n e
+node_stmt_over n (Stmt-F.Assert e) = expr_over n e
+node_stmt_over n (Stmt-F.Block all) = all_true all
+node_stmt_over n (Stmt-F.Marked mark body) = body
 
--- each variable of a statement is below n
-abbrev pub is_below : ℕ → Stmt → Bool
-is_below n = fold-Stmt Bool (node_is_below n)
+-- a statement over n variables: likewise
+abbrev pub stmt_over : ℕ → Stmt → Bool
+stmt_over n = fold-Stmt Bool (node_stmt_over n)
 
 -- a count that is there
 abbrev pub counted : Option ℕ → ℕ
@@ -62,17 +64,17 @@ node_count _ = 1
 abbrev pub stmt_count : Stmt → ℕ
 stmt_count = fold-Stmt ℕ node_count
 
--- a program has 1 to 8 parameters, at most 64 variables and 1,000 statements, and only its own variables
+-- a program has some parameters, no more of anything than the limits, and statements over its own variables
 pub record IsProgram (params : ℕ) (names : List (List ℕ)) (body : List Stmt) : Type 0 where
   pub some_params : 1 ≤ params
-  pub few_params : params ≤ 8
+  pub few_params : params ≤ MAX_PARAMS
   pub params_named : params ≤ length names
-  pub few_names : length names ≤ 64
-  pub few_statements : sum (map (λ s. stmt_count s) body) ≤ 1000
-  pub own_variables : all_true (map (λ s. is_below (length names) s) body) ≡ true
+  pub few_names : length names ≤ MAX_VARS
+  pub few_statements : sum (map (λ s. stmt_count s) body) ≤ MAX_STMTS
+  pub own_variables : all_true (map (λ s. stmt_over (length names) s) body) ≡ true
 
--- a pair has as many parameters on both sides, and a bound of 1 to 256 turns
+-- a pair has as many parameters on both sides, and a bound on the turns that is within its limit
 pub record IsPair (before after turns : ℕ) : Type 0 where
   pub same_params : before ≡ after
   pub some_turns : 1 ≤ turns
-  pub few_turns : turns ≤ 256
+  pub few_turns : turns ≤ MAX_TURNS

@@ -1,6 +1,6 @@
 -- Words are the integers from -2147483648 to 2147483647. This says what each operator gives.
 -- From ISO/IEC 9899:1999: `/` truncates toward zero and `%` goes with it (6.5.5), and comparisons and logical operators give 0 or 1 (6.5.8, 6.5.9, 6.5.13, 6.5.14). That sums wrap, that MIN / -1 is MIN and that shifts take five bits is this project's own.
-use Rattle.std.specs.Prelude.{ℕ, zero, suc, ◌%◌, Bool, true, false, ◌&&◌, ◌||◌, not, if◌then◌else◌, Option, Some, None, ℤ, pos, negsuc, ◌+ℤ◌, ◌-ℤ◌, ◌*ℤ◌, neg_ℤ, int_lt, int_le, int_div, int_rem, FitsSigned}
+use Rattle.std.specs.Prelude.{ℕ, zero, suc, ◌%◌, ◌^◌, nat_lt, Bool, true, false, ◌&&◌, ◌||◌, not, if◌then◌else◌, Option, Some, None, ℤ, pos, negsuc, ◌+ℤ◌, ◌-ℤ◌, ◌*ℤ◌, neg_ℤ, int_lt, int_le, int_div, int_rem, FitsSigned}
 use Rattle.std.specs.Ordering.{int_eq}
 use Rattle.std.specs.Int.{w32, cast_unsigned, int_wrap, int_shl, int_shr, int_bit_and, int_bit_or, int_bit_xor, int_bit_not}
 use Rattle.prv_model.specs.declared.op.UnOp.{UnOp}
@@ -11,6 +11,11 @@ use Rattle.prv_model.specs.declared.op.BinOp.TheVariants.{Add, Sub, Mul, Div, Re
 -- a number is a word
 abbrev pub IsWord : ℤ → Type 0
 IsWord n = FitsSigned w32 n
+
+-- the same as a test
+abbrev pub is_word : ℤ → Bool
+is_word (pos n) = nat_lt n (2 ^ 31)
+is_word (negsuc n) = nat_lt n (2 ^ 31)
 
 -- the word that differs from n by a multiple of 2^32
 abbrev pub wrap : ℤ → ℤ

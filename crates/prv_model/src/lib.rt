@@ -1,14 +1,16 @@
 //! Programs, words and terms, and the definitions that the whole workspace cites.
 //!
-//! The types are plain data. What a program does on an input, what a term is worth and when a list of
-//! entries is legal is said in `specs/`, over lists and numbers alone.
+//! The types are plain data. What a program does on an input, what value a term has and when a list
+//! of entries is legal is said in `specs/`, over lists and numbers alone.
 #![tactic(auto)]
 
 mod arithmetic;
+mod boards;
 mod entry;
 mod expr;
 mod input;
 mod laws;
+mod limits;
 mod name;
 mod op;
 mod outcome;
@@ -19,12 +21,17 @@ mod term;
 #[cfg(test)]
 mod tests;
 mod verdict;
+mod wellformed;
 
 pub use arithmetic::apply;
+pub use boards::places;
 pub use entry::{Entry, Kind, Reason};
 pub use expr::Expr;
 pub use input::Input;
-pub use laws::one_verdict;
+pub use laws::{one_verdict, term_has_a_word};
+pub use limits::{
+    MAX_FILE, MAX_NAME, MAX_OPEN, MAX_OPERATORS, MAX_PARAMS, MAX_STMTS, MAX_TURNS, MAX_VARS,
+};
 pub use name::Name;
 pub use op::{BinOp, TermOp, UnOp};
 pub use outcome::{Ending, Outcome};

@@ -1,5 +1,5 @@
 ghost use Rattle.std.specs.Prelude.{◌≡◌};
-ghost use Rattle.prv_model.specs.Terms.{worth, holds as holds_of, bin_op as bin_op_of, total as total_of};
+ghost use Rattle.prv_model.specs.Terms.{term_value, holds as holds_of, bin_op as bin_op_of, total as total_of};
 
 use crate::arithmetic::apply;
 use crate::op::{BinOp, TermOp};
@@ -20,7 +20,7 @@ pub enum Term {
 ///
 /// It goes over the term as a tree, and so takes time in proportion to it.
 pub fn value_of(term: &Term, words: &[i32]) -> i32
-    ensures { result ≡ worth term.now words.now }
+    ensures { result ≡ term_value term.now words.now }
 {
     match term {
         Term::Param(k) => at(words, *k as usize).copied().unwrap_or(0),

@@ -1,6 +1,6 @@
 ghost use Rattle.std.specs.Prelude.{◌≡◌, ◌≤◌, ◌<◌, true, length, map, sum, IfOk};
 ghost use Rattle.std.specs.Option.{option_map};
-ghost use Rattle.prv_model.specs.Programs.{reads_below, is_below, passed, all_true, counted, stmt_count};
+ghost use Rattle.prv_model.specs.Programs.{expr_over, stmt_over, passed, all_true, counted, stmt_count};
 ghost use Rattle.prv_parse.specs.Trees.{stmt_count as tree_count, counted as tree_counted};
 ghost use Rattle.prv_names.specs.Versions.{variable as variable_of, numbered_expr, numbered};
 
@@ -28,7 +28,7 @@ fn number_expr(alloc: Global, expr: &ExprTree, names: &Names) -> Result<Expr, Al
     requires some { 1 ≤ length names.now }
     requires few { length names.now ≤ 64 }
     ensures number { IfOk result (λ e. e ≡ numbered_expr names.now expr.now) }
-    ensures below { IfOk result (λ e. reads_below (length names.now) e ≡ true) }
+    ensures below { IfOk result (λ e. expr_over (length names.now) e ≡ true) }
 {
     match expr {
         ExprTree::Num(n) => Ok(Expr::Num(*n)),
@@ -61,7 +61,7 @@ fn number(alloc: Global, stmt: &StmtTree, names: &Names) -> Result<Stmt, AllocEr
     requires some { 1 ≤ length names.now }
     requires few { length names.now ≤ 64 }
     ensures number { IfOk result (λ s. s ≡ numbered names.now stmt.now) }
-    ensures below { IfOk result (λ s. is_below (length names.now) s ≡ true) }
+    ensures below { IfOk result (λ s. stmt_over (length names.now) s ≡ true) }
     ensures count { IfOk result (λ s. stmt_count s ≡ tree_count stmt.now) }
 {
     match stmt {
@@ -115,7 +115,7 @@ fn number_else(
     requires some { 1 ≤ length names.now }
     requires few { length names.now ≤ 64 }
     ensures number { IfOk result (λ o. o ≡ option_map (λ s. numbered names.now s) branch.now) }
-    ensures below { IfOk result (λ o. passed (option_map (λ s. is_below (length names.now) s) o) ≡ true) }
+    ensures below { IfOk result (λ o. passed (option_map (λ s. stmt_over (length names.now) s) o) ≡ true) }
     ensures count { IfOk result (λ o. counted (option_map (λ s. stmt_count s) o) ≡ tree_counted (option_map (λ s. tree_count s) branch.now)) }
 {
     match branch {
@@ -133,7 +133,7 @@ pub fn number_all(alloc: Global, all: &[StmtTree], names: &Names) -> Result<Item
     requires some { 1 ≤ length names.now }
     requires few { length names.now ≤ 64 }
     ensures number { IfOk result (λ body. body ≡ map (λ s. numbered names.now s) all.now) }
-    ensures below { IfOk result (λ body. all_true (map (λ s. is_below (length names.now) s) body) ≡ true) }
+    ensures below { IfOk result (λ body. all_true (map (λ s. stmt_over (length names.now) s) body) ≡ true) }
     ensures count { IfOk result (λ body. sum (map (λ s. stmt_count s) body) ≡ sum (map (λ s. tree_count s) all.now)) }
 {
     let mut body = Items::new(alloc);

@@ -5,7 +5,7 @@ use Rattle.std.specs.List.{AllByRecursion}
 use Rattle.std.specs.Cmp.{signed_Decides}
 use Rattle.std.proofs.lemmas.List.{append-nil, length-append}
 use Rattle.prv_model.specs.Words.{is_zero}
-use Rattle.prv_model.specs.Terms.{worth, holds}
+use Rattle.prv_model.specs.Terms.{term_value, holds}
 use Rattle.prv_model.specs.Comparison.{verdict}
 use Rattle.prv_model.specs.Boards.{IsInput, one_if, places, Claims, ShowsMember, IsLegal, FirstHoldsOnly}
 use Rattle.prv_model.specs.declared.op.TermOp.TheVariants.{Eq, Ne}
@@ -14,26 +14,26 @@ use Rattle.prv_model.specs.declared.term.Term.TheVariants.{Param, Num}
 use Rattle.prv_model.specs.declared.verdict.Verdict.{Verdict}
 use Rattle.prv_model.specs.declared.verdict.Verdict.TheVariants as v
 use Rattle.prv_model.specs.declared.program.Pair.{Pair}
-use Rattle.prv_model.proofs.TermLemmas.{worth-Param, worth-Num, worth-Op, is_zero-flag, holds-append}
+use Rattle.prv_model.proofs.TermLemmas.{term_value-Param, term_value-Num, term_value-Op, is_zero-flag, holds-append}
 use Rattle.prv_run.specs.Points.{equals, differs, literals, rests, kind_at, point}
 
 -- whether parameter k of an input has the word n
 has : ℕ → ℤ → List ℤ → Bool
 has k n y = int_eq (unwrap_or (slice_get y k) (pos 0)) n
 
-nonzero-equals : (k : ℕ) (n : ℤ) (y : List ℤ) → not (is_zero (worth (equals k n) y)) ≡ has k n y
+nonzero-equals : (k : ℕ) (n : ℤ) (y : List ℤ) → not (is_zero (term_value (equals k n) y)) ≡ has k n y
 unfolding has
-nonzero-equals k n y = rw (worth-Op Eq (Param k) (Num n) y, worth-Param k y, worth-Num n y) (is_zero-flag (has k n y))
+nonzero-equals k n y = rw (term_value-Op Eq (Param k) (Num n) y, term_value-Param k y, term_value-Num n y) (is_zero-flag (has k n y))
 
-nonzero-differs : (k : ℕ) (n : ℤ) (y : List ℤ) → not (is_zero (worth (differs k n) y)) ≡ not (has k n y)
+nonzero-differs : (k : ℕ) (n : ℤ) (y : List ℤ) → not (is_zero (term_value (differs k n) y)) ≡ not (has k n y)
 unfolding has
-nonzero-differs k n y = rw (worth-Op Ne (Param k) (Num n) y, worth-Param k y, worth-Num n y) (is_zero-flag (not (has k n y)))
+nonzero-differs k n y = rw (term_value-Op Ne (Param k) (Num n) y, term_value-Param k y, term_value-Num n y) (is_zero-flag (not (has k n y)))
 
 and_true : (b : Bool) → (b && true) ≡ b
 and_true true = refl
 and_true false = refl
 
-holds-then : (front : List Term) (t : Term) (b : Bool) (y : List ℤ) → not (is_zero (worth t y)) ≡ b → holds (front ++ t ∷ []) y ≡ (holds front y && b)
+holds-then : (front : List Term) (t : Term) (b : Bool) (y : List ℤ) → not (is_zero (term_value t y)) ≡ b → holds (front ++ t ∷ []) y ≡ (holds front y && b)
 holds-then front t b y is = holds-append front (t ∷ []) y ∙ ap (λ (c : Bool). holds front y && c) (and_true _ ∙ is)
 
 -- of an input in the front, either it has the word or it hasn't
@@ -94,7 +94,7 @@ only front (n ∷ x) (m ∷ y) k at long inside =
 itself : (front x : List ℤ) (k : ℕ) → length front ≡ k → holds (literals k x) (front ++ x) ≡ true
 itself front [] k at = refl
 itself front (n ∷ x) k at =
-    let one : not (is_zero (worth (equals k n) (front ++ n ∷ x))) ≡ true =
+    let one : not (is_zero (term_value (equals k n) (front ++ n ∷ x))) ≡ true =
     nonzero-equals k n (front ++ n ∷ x) ∙ has-append front n n x k at ∙ (signed_Decides n n).1 refl in
     let next : length (front ++ n ∷ []) ≡ suc k = omega (arith, length-append front (n ∷ []), at) in
     let rest : holds (literals (suc k) x) (front ++ n ∷ x) ≡ true =

@@ -1,6 +1,6 @@
 ghost use Rattle.std.specs.Prelude.{◌≡◌, ◌≤◌, ◌<◌, true, length, map, IfOk, if◌then◌else◌};
 ghost use Rattle.prv_model.specs.Words.{is_zero};
-ghost use Rattle.prv_model.specs.Programs.{is_below, all_true};
+ghost use Rattle.prv_model.specs.Programs.{stmt_over, all_true};
 ghost use Rattle.prv_model.specs.Statements.{exec, exec_all, loop, with_value, goes, ends, assign as assign_to, put};
 ghost use Rattle.prv_run.specs.Frames.{frame_of, step_of};
 
@@ -20,7 +20,7 @@ pub struct Frame {
 /// Runs a statement from a frame, and answers how it ended the run, if it did.
 #[cycle(execute)]
 pub fn execute(stmt: &Stmt, frame: &mut Frame) -> Result<Option<Ending>, AllocError>
-    requires { is_below (length frame.old.state) stmt.now ≡ true }
+    requires { stmt_over (length frame.old.state) stmt.now ≡ true }
     ensures done { IfOk result (λ ending. exec stmt.now (frame_of frame.old) ≡ step_of frame.new ending) }
     ensures spent { frame.new.turns ≤ frame.old.turns }
     ensures variables { length frame.new.state ≡ length frame.old.state }
@@ -56,7 +56,7 @@ pub fn execute(stmt: &Stmt, frame: &mut Frame) -> Result<Option<Ending>, AllocEr
 /// Runs statements one after another, until one ends the run.
 #[cycle(execute)]
 pub fn execute_all(all: &[Stmt], frame: &mut Frame) -> Result<Option<Ending>, AllocError>
-    requires { all_true (map (λ s. is_below (length frame.old.state) s) all.now) ≡ true }
+    requires { all_true (map (λ s. stmt_over (length frame.old.state) s) all.now) ≡ true }
     ensures done { IfOk result (λ ending. exec_all all.now (frame_of frame.old) ≡ step_of frame.new ending) }
     ensures spent { frame.new.turns ≤ frame.old.turns }
     ensures variables { length frame.new.state ≡ length frame.old.state }
@@ -73,7 +73,7 @@ pub fn execute_all(all: &[Stmt], frame: &mut Frame) -> Result<Option<Ending>, Al
 /// Runs a loop.
 #[cycle(execute)]
 fn repeat(body: &Stmt, test: &Expr, frame: &mut Frame) -> Result<Option<Ending>, AllocError>
-    requires { is_below (length frame.old.state) body.now ≡ true }
+    requires { stmt_over (length frame.old.state) body.now ≡ true }
     ensures done { IfOk result (λ ending.
         loop test.now (λ f. exec body.now f) frame.old.turns (frame_of frame.old) ≡ step_of frame.new ending) }
     ensures spent { frame.new.turns ≤ frame.old.turns }

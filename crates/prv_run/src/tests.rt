@@ -1,6 +1,6 @@
 ghost use Rattle.std.specs.Prelude.{◌≡◌, map};
 ghost use Rattle.std.specs.Option.{option_map};
-ghost use Rattle.prv_model.specs.Programs.{is_below as is_below_of, reads_below as reads_below_of, all_true, passed};
+ghost use Rattle.prv_model.specs.Programs.{stmt_over as is_below_of, expr_over as reads_below_of, all_true, passed};
 
 use crate::execute::{Frame, execute_all};
 use prv_model::{BinOp, Ending, Expr, Stmt, UnOp};
@@ -10,39 +10,39 @@ use std::process::Abort;
 use std::test::Fail;
 
 /// Whether each variable of an expression is below n.
-fn reads_below(expr: &Expr, n: usize) -> bool
+fn expr_over(expr: &Expr, n: usize) -> bool
     ensures { result ≡ reads_below_of n expr.now }
 {
     match expr {
         Expr::Num(_) => true,
         Expr::Var(v) => (*v as usize) < n,
-        Expr::Un(_, a) => reads_below(a.get(), n),
-        Expr::Bin(_, a, b) => reads_below(a.get(), n) && reads_below(b.get(), n),
+        Expr::Un(_, a) => expr_over(a.get(), n),
+        Expr::Bin(_, a, b) => expr_over(a.get(), n) && expr_over(b.get(), n),
         Expr::Pick(test, chosen, other) => {
-            reads_below(test.get(), n)
-                && reads_below(chosen.get(), n)
-                && reads_below(other.get(), n)
+            expr_over(test.get(), n)
+                && expr_over(chosen.get(), n)
+                && expr_over(other.get(), n)
         }
     }
 }
 
 /// Whether each variable of a statement is below n.
 #[cycle(below)]
-fn is_below(stmt: &Stmt, n: usize) -> bool
+fn stmt_over(stmt: &Stmt, n: usize) -> bool
     ensures { result ≡ is_below_of n stmt.now }
 {
     match stmt {
         Stmt::Skip => true,
-        Stmt::Set { var, value } => (*var as usize) < n && reads_below(value, n),
+        Stmt::Set { var, value } => (*var as usize) < n && expr_over(value, n),
         Stmt::If { test, yes, no } => {
-            reads_below(test, n) && is_below(yes.get(), n) && is_branch_below(no, n)
+            expr_over(test, n) && stmt_over(yes.get(), n) && is_branch_below(no, n)
         }
-        Stmt::While { test, body } => reads_below(test, n) && is_below(body.get(), n),
-        Stmt::Return(value) => reads_below(value, n),
-        Stmt::Out(value) => reads_below(value, n),
-        Stmt::Assert(value) => reads_below(value, n),
+        Stmt::While { test, body } => expr_over(test, n) && stmt_over(body.get(), n),
+        Stmt::Return(value) => expr_over(value, n),
+        Stmt::Out(value) => expr_over(value, n),
+        Stmt::Assert(value) => expr_over(value, n),
         Stmt::Block(all) => are_below(all.as_slice(), n),
-        Stmt::Marked { mark: _, body } => is_below(body.get(), n),
+        Stmt::Marked { mark: _, body } => stmt_over(body.get(), n),
     }
 }
 
@@ -52,7 +52,7 @@ fn is_branch_below(branch: &Option<Boxed<Stmt>>, n: usize) -> bool
 {
     match branch {
         None => true,
-        Some(stmt) => is_below(stmt.get(), n),
+        Some(stmt) => stmt_over(stmt.get(), n),
     }
 }
 
@@ -61,7 +61,7 @@ fn are_below(all: &[Stmt], n: usize) -> bool
     ensures { result ≡ all_true (map (λ s. is_below_of n s) all.now) }
 {
     for stmt in all {
-        if !is_below(stmt, n) {
+        if !stmt_over(stmt, n) {
             return false;
         }
     }

@@ -1,7 +1,7 @@
 use Rattle.std.proofs.Common.{rules, ◌≡◌, ◌≤◌, length, arith, sym, ◌∙◌, Some, None, subst, FitsSigned}
 use Rattle.std.specs.Int.{w32}
 use denote.Param.Weighed.{most, at_most}
-use Rattle.prv_model.specs.Programs.{is_below}
+use Rattle.prv_model.specs.Programs.{stmt_over}
 use Rattle.prv_model.specs.Expressions.{value}
 use Rattle.prv_model.specs.Statements.{exec, goes, spend}
 use Rattle.prv_model.specs.declared.stmt.Stmt.{Stmt}
@@ -18,7 +18,7 @@ execute_all-execute-requires t c =
     let stmt = c.stmt-item.result in
     let smaller : the_size stmt ≤ most (λ y. the_size y) all =
     subst (λ (y : Stmt). the_size y ≤ most (λ z. the_size z) all) (sym c.stmt-item.is) (at_most (λ z. the_size z) all l.stmt-index stmt (omega arith)) in
-    (search rules, rw l.invariant.variables (all_true-at (λ s. is_below (length c.args.frame.now.state) s) all l.stmt-index stmt c.requires c.loop-stmt-test.true c.stmt-item.is))
+    (search rules, rw l.invariant.variables (all_true-at (λ s. stmt_over (length c.args.frame.now.state) s) all l.stmt-index stmt c.requires c.loop-stmt-test.true c.stmt-item.is))
 
 pub repeat-loop-n-preserved : goal.repeat-loop-n-preserved
 repeat-loop-n-preserved t c =
