@@ -1,6 +1,7 @@
 -- Where all files are told, each step does one thing and has one answer, but for faults and want of memory.
 use Rattle.std.proofs.Common.{◌≡◌, ◌≢◌, ◌⊎◌, inl, inr, ℕ, ◌<◌, ◌≤◌, List, [], ◌∷◌, ◌++◌, length, take, ℤ, Result, Ok, Err, refl, sym, ap, ◌∙◌, subst, arith}
 use Rattle.prv_io.specs.Files.{Known, Absent, Holds, Unknown, MayHold, MayBeLonger}
+use Rattle.prv_model.specs.declared.limits.TheConstants.{MAX_FILE}
 use Rattle.prv_lex.specs.declared.error.LexWhy.TheVariants.{Long}
 use Rattle.prv_names.specs.declared.version.Version.{Version}
 use Rattle.prv_version.specs.Versions.{IsFileRefused}
@@ -121,7 +122,7 @@ single-writes told shown = single-then told (write shown.text) (λ _. answers (�
 
 -- a refusal of a read: a fault or want of memory, or that the file is too long
 TooLong : Who → Known → Refusal → Type 0
-TooLong who known e = IsFree e ⊎ ((e ≡ refusal.File who (file.Lex 65536 Long)) × MayBeLonger 65536 known)
+TooLong who known e = IsFree e ⊎ ((e ≡ refusal.File who (file.Lex MAX_FILE Long)) × MayBeLonger MAX_FILE known)
 
 read-refusal : (who : Who) (known : Known) (e : Refusal) → IsRead who known (Err e) → TooLong who known e
 read-refusal who known (refusal.File w why) (one, same, long) = inr (ap (λ (x : Who). refusal.File x why) one ∙ ap (λ (y : FileRefusal). refusal.File who y) same, long)
@@ -139,7 +140,7 @@ one-text Absent a b told x y = absurd x
 one-text (Holds c) a b told x y = x ∙ sym y
 one-text Unknown a b told x y = absurd (told refl)
 
-not-longer : (known : Known) (a : List ℕ) → known ≢ Unknown → MayHold known a → length a ≤ 65536 → MayBeLonger 65536 known → ⊥
+not-longer : (known : Known) (a : List ℕ) → known ≢ Unknown → MayHold known a → length a ≤ MAX_FILE → MayBeLonger MAX_FILE known → ⊥
 not-longer Absent a told x short long = absurd x
 not-longer (Holds c) a told x short long = omega (arith, ap length x)
 not-longer Unknown a told x short long = absurd (told refl)

@@ -1,6 +1,7 @@
 -- The steps that read a file.
 use Rattle.std.specs.Prelude.{◌≡◌, ◌≢◌, ℕ, ◌≤◌, List, [], ◌∷◌, length, ℤ, ⊤, Result, Ok, Err}
 use Rattle.prv_io.specs.Files.{Known, MayHold, MayBeLonger}
+use Rattle.prv_model.specs.declared.limits.TheConstants.{MAX_FILE}
 use Rattle.prv_lex.specs.declared.error.LexWhy.TheVariants.{Long}
 use Rattle.prv_names.specs.declared.version.Version.{Version}
 use Rattle.prv_version.specs.Versions.{GivesVersion, IsFileRefused}
@@ -10,11 +11,11 @@ use Rattle.prv_cli.specs.declared.refusal.Who.{Who}
 use Rattle.prv_cli.specs.declared.refusal.Refusal.{Refusal}
 use Rattle.prv_cli.specs.declared.refusal.Refusal.TheVariants as refusal
 
--- what a read of a file may answer: its bytes, at most 65,536; that it has more; that the read failed; or that memory ran out.
+-- what a read of a file may answer: its bytes, within the limit; that it has more; that the read failed; or that memory ran out.
 -- So the answer for a file that is known to be absent is that the read failed.
 abbrev pub IsRead : Who → Known → Result (List ℕ) Refusal → Type 0
-IsRead who known (Ok bytes) = MayHold known bytes × (length bytes ≤ 65536)
-IsRead who known (Err (refusal.File w why)) = (w ≡ who) × (why ≡ file.Lex 65536 Long) × MayBeLonger 65536 known
+IsRead who known (Ok bytes) = MayHold known bytes × (length bytes ≤ MAX_FILE)
+IsRead who known (Err (refusal.File w why)) = (w ≡ who) × (why ≡ file.Lex MAX_FILE Long) × MayBeLonger MAX_FILE known
 IsRead who known (Err refusal.Read) = ⊤
 IsRead who known (Err refusal.Memory) = ⊤
 IsRead who known (Err _) = ⊥

@@ -8,13 +8,13 @@ ghost use Rattle.prv_cli.specs.Answers.{Follows, UnlessRead};
 use crate::refusal::{Refusal, Who};
 use prv_io::{FileError, Files};
 use prv_lex::LexWhy;
-use prv_model::Input;
+use prv_model::{Input, MAX_FILE};
 use prv_names::Version;
 use prv_version::{FileRefusal, VersionError, read_version};
 use std::alloc::Global;
 
 /// The greatest length of a file, in bytes.
-const FILE_BYTES: u32 = 65_536;
+const FILE_BYTES: u32 = MAX_FILE as u32;
 
 /// The version of a program that a file gives; `who` names the file in a refusal. The file is read once.
 pub fn load<F: Files>(

@@ -14,13 +14,13 @@ struct Ran {
 
 /// Which reads fail, counted from 1, and for how many bytes the outputs have room.
 #[derive(Clone, Copy)]
-struct Faults {
+struct Failing {
     reads: &'static [u32],
     out_room: u32,
     err_room: u32,
 }
 
-const NONE: Faults = Faults {
+const NONE: Failing = Failing {
     reads: &[],
     out_room: 2000,
     err_room: 1000,
@@ -50,7 +50,7 @@ fn run(
     line: &'static str,
     old: &[u8],
     new: &[u8],
-    faults: Faults,
+    faults: Failing,
 ) -> Result<Ran, Fail> {
     let words = words_of(alloc, line)?;
     let both = vec![in alloc; file(alloc, "old", old)?, file(alloc, "new", new)?]?;
@@ -193,19 +193,19 @@ fn limits(rt: HostRuntime) -> Result<(), Fail> {
 }
 
 /// Words, the file `old`, faults, the status, what the outputs take, and how many reads and writes fail.
-const FAULTS: [(&str, &str, Faults, u8, &str, &str, u64, u64, u64); 9] = [
+const FAULTS: [(&str, &str, Failing, u8, &str, &str, u64, u64, u64); 9] = [
     // A file that isn't there, and reads that fail.
     ("point old no 5", SAME, NONE, 5, "", "prv: read fault\n", 1, 0, 0),
-    ("point old new 5", SAME, Faults { reads: &[1], ..NONE }, 5, "", "prv: read fault\n", 1, 0, 0),
-    ("point old new 5", SAME, Faults { reads: &[2], ..NONE }, 5, "", "prv: read fault\n", 1, 0, 0),
+    ("point old new 5", SAME, Failing { reads: &[1], ..NONE }, 5, "", "prv: read fault\n", 1, 0, 0),
+    ("point old new 5", SAME, Failing { reads: &[2], ..NONE }, 5, "", "prv: read fault\n", 1, 0, 0),
     // OLD is judged before NEW is read, a file is read once, and a command that isn't built reads none.
-    ("point old new 5", "", Faults { reads: &[2], ..NONE }, 4, "", "prv: old: syntax at 0\n", 0, 0, 0),
-    ("run old 5", SAME, Faults { reads: &[2], ..NONE }, 0, "returned 5\n", "", 0, 0, 0),
-    ("explore old new", SAME, Faults { reads: &[1], ..NONE }, 3, "", "prv: later\n", 0, 0, 0),
+    ("point old new 5", "", Failing { reads: &[2], ..NONE }, 4, "", "prv: old: syntax at 0\n", 0, 0, 0),
+    ("run old 5", SAME, Failing { reads: &[2], ..NONE }, 0, "returned 5\n", "", 0, 0, 0),
+    ("explore old new", SAME, Failing { reads: &[1], ..NONE }, 3, "", "prv: later\n", 0, 0, 0),
     // What was taken before a fault is a part of what is shown, and of a refusal's line.
-    ("run old 5", SAME, Faults { out_room: 0, ..NONE }, 6, "", "prv: write fault\n", 0, 1, 0),
-    ("point old new 5", SAME, Faults { out_room: 12, ..NONE }, 6, "regions 2\n1 ", "prv: write fault\n", 0, 1, 0),
-    ("run old x", SAME, Faults { err_room: 3, ..NONE }, 3, "", "prv", 0, 0, 1),
+    ("run old 5", SAME, Failing { out_room: 0, ..NONE }, 6, "", "prv: write fault\n", 0, 1, 0),
+    ("point old new 5", SAME, Failing { out_room: 12, ..NONE }, 6, "regions 2\n1 ", "prv: write fault\n", 0, 1, 0),
+    ("run old x", SAME, Failing { err_room: 3, ..NONE }, 3, "", "prv", 0, 0, 1),
 ];
 
 const SAME: &str = "int main(int a) { return a; }";

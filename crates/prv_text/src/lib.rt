@@ -8,7 +8,7 @@ mod counts;
 mod entry;
 mod number;
 mod outcome;
-mod report;
+mod reports;
 mod term;
 #[cfg(test)]
 mod tests;
@@ -17,5 +17,5 @@ pub use counts::push_counts;
 pub use entry::{push_entry, push_marks};
 pub use number::push_number;
 pub use outcome::outcome_text;
-pub use report::{push_entries, report, report_entries};
+pub use reports::{push_entries, report, report_entries};
 pub use term::{push_literal, push_term};

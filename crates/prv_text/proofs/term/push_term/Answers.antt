@@ -7,8 +7,8 @@ pub returns-in_ok-extend_from_slice : goal.returns-in_ok-extend_from_slice
 returns-in_ok-extend_from_slice c =
     let old = c.args.out.now in
     let mid = c.push_spelled.new.out in
-    let start : c.len-end.result ≡ length old.items = omega (arith, old.ok.0) in
-    let long : c.len-end.result + c.args.limit < length mid.items = omega (arith, mid.ok.0) in
+    let start : c.len.result ≡ length old.items = omega (arith, old.ok.0) in
+    let long : c.len.result + c.args.limit < length mid.items = omega (arith, mid.ok.0) in
     c.in_ok-extend_from_slice.ensures.items
     ∙ ap (λ (zs : List ℕ). zs ++ codes "..") c.truncate.ensures.items
-    ∙ cut-long c.args.limit c.len-end.result old.items (spelled c.args.names.now c.args.term.now).text mid.items start c.in_ok-push_spelled.ensures long
+    ∙ cut-long c.args.limit c.len.result old.items (spelled c.args.names.now c.args.term.now).text mid.items start c.in_ok-push_spelled.ensures long
