@@ -121,7 +121,7 @@ single-writes told shown = single-then told (write shown.text) (λ _. answers (�
     (λ _. single-answers told (λ status. status ≡ shown.status) (λ _. ⊥) (λ a b x y. x ∙ sym y) (λ a e x y. absurd y) (λ e f x y. absurd x))
 
 -- a refusal of a read: a fault or want of memory, or that the file is too long
-TooLong : Who → Known → Refusal → Type 0
+abbrev TooLong : Who → Known → Refusal → Type 0
 TooLong who known e = IsFree e ⊎ ((e ≡ refusal.File who (file.Lex MAX_FILE Long)) × MayBeLonger MAX_FILE known)
 
 read-refusal : (who : Who) (known : Known) (e : Refusal) → IsRead who known (Err e) → TooLong who known e
@@ -165,7 +165,7 @@ single-read told who name known t u (Err e) (Err f) (s, x) (s', y) = by (read-re
     by (inr (same, _)) (inr (equal, _)) = inl (s ∙ sym s', ap (λ (z : Refusal). Err z) (same ∙ sym equal))
 
 -- a refusal of bytes: want of memory, or that the file is refused
-Refused : Who → List ℕ → Refusal → Type 0
+abbrev Refused : Who → List ℕ → Refusal → Type 0
 Refused who bytes e = IsFree e ⊎ ((why : FileRefusal) × (e ≡ refusal.File who why) × IsFileRefused bytes why)
 
 version-refusal : (who : Who) (bytes : List ℕ) (e : Refusal) → GivesNone who bytes e → Refused who bytes e

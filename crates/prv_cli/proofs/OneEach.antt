@@ -1,7 +1,6 @@
 -- Where all files are told, each command does one thing and has one answer, but for faults and want of memory.
 use Rattle.std.proofs.Common.{◌≡◌, ◌≢◌, ◌⊎◌, inl, inr, ℕ, List, ℤ, Result, refl, sym, ap, ◌∙◌, subst}
 use Rattle.std.proofs.Props.{props}
-use Rattle.std.specs.Coded.{IsProp}
 use Rattle.prv_io.specs.Files.{Unknown}
 use Rattle.prv_model.specs.Programs.{IsPair}
 use Rattle.prv_model.specs.Comparison.{verdict}
@@ -42,7 +41,7 @@ single-run told file input all =
     single-then told (fits input v.program.params) _ (single-fits told input v.program.params) (λ _.
     single-value told _))
 
-pair-from : (before after : Program) (turns : ℕ) → IsPair before.params after.params turns → Pair
+abbrev pair-from : (before after : Program) (turns : ℕ) → IsPair before.params after.params turns → Pair
 pair-from before after turns kept = record { before = before; after = after; turns = turns; kept = kept }
 
 -- two pairs with equal fields are one
@@ -58,7 +57,7 @@ one-pair : (before after : Version) (a b : Pair) → Makes before after a → Ma
 one-pair before after a b x y =
     same-pair a.before b.before a.after b.after a.turns b.turns a.kept b.kept (x.before_is ∙ sym y.before_is) (x.after_is ∙ sym y.after_is) (x.turns ∙ sym y.turns)
 
-Unpaired : Version → Version → Refusal → Type 0
+abbrev Unpaired : Version → Version → Refusal → Type 0
 Unpaired before after e = (why : PairError) × (e ≡ refusal.Pair why) × IsRefused before after why
 
 pair-refusal : (before after : Version) (e : Refusal) → MakesNone before after e → Unpaired before after e
@@ -82,7 +81,7 @@ single-pair told before after = single-answers told (Makes before after) (MakesN
         let other = pair-refusal before after f y in
         inl (one.1 ∙ ap (λ (w : PairError). refusal.Pair w) (marks.one_refusal before after one.0 other.0 one.2 other.2) ∙ sym other.1)
 
-point-shown : Pair → List Entry → Shown
+abbrev point-shown : Pair → List Entry → Shown
 point-shown pair entries = record { text = point_report pair.before.names entries; status = entries_status entries }
 
 one-point : (pair : Pair) (input : List ℤ) (a b : Shown) → IsPoint pair input a → IsPoint pair input b → a ≡ b
@@ -112,7 +111,7 @@ single-does told (Resume journal lines settlements workers) all = single-later t
 single-does told (Check journal) all = single-later told
 single-does told (Gen number size) all = single-later told
 
-Unread : List (List ℕ) → Refusal → Type 0
+abbrev Unread : List (List ℕ) → Refusal → Type 0
 Unread words e = IsFree e ⊎ ((word : ℕ) × (e ≡ refusal.Usage word) × IsUsage words word)
 
 word-refusal : (words : List (List ℕ)) (e : Refusal) → ReadsNone words e → Unread words e

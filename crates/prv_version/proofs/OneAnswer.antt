@@ -81,7 +81,7 @@ data Part : Type 0 where
   Limits : (place : ℕ) → Part
   Names : (why : NameError) → Part
 
-part : FileRefusal → Part
+abbrev part : FileRefusal → Part
 part (file.Lex place why) = Lexer place why
 part (file.Syntax place) = Grammar place
 part (file.Deep place) = Limits place
@@ -91,7 +91,7 @@ part (file.NotInScope place) = Names (name.NotInScope place)
 part (file.TooMany what count) = Names (name.TooMany what count)
 
 -- and back; want of memory is the reason of none
-back : Part → FileRefusal
+abbrev back : Part → FileRefusal
 back (Lexer place why) = file.Lex place why
 back (Grammar place) = file.Syntax place
 back (Limits place) = file.Deep place
@@ -110,7 +110,7 @@ back-part (file.Twice place) = refl
 back-part (file.NotInScope place) = refl
 back-part (file.TooMany what count) = refl
 
-RefusedBy : List ℕ → Part → Type 0
+abbrev RefusedBy : List ℕ → Part → Type 0
 RefusedBy text (Lexer place why) = IsRefused text place why
 RefusedBy text (Grammar place) = SyntaxAt text place
 RefusedBy text (Limits place) = DeepAt text place

@@ -1,7 +1,6 @@
 -- A file gives one version at most.
 use Rattle.std.proofs.Common.{◌≡◌, ℕ, List, length, map, refl, sym, ap, ◌∙◌, subst}
 use Rattle.std.proofs.Props.{props}
-use Rattle.std.specs.Coded.{IsProp}
 use Rattle.prv_model.specs.Programs.{IsProgram}
 use Rattle.prv_model.specs.declared.program.Program.{Program}
 use Rattle.prv_model.specs.declared.stmt.Stmt.{Stmt}
@@ -14,7 +13,7 @@ use Rattle.prv_names.specs.declared.version.Version.{Version}
 use Rattle.prv_version.specs.Versions.{GivesVersion}
 use Rattle.prv_version.proofs.OneAnswer.{one-tree}
 
-program-of : (params : ℕ) (names : List (List ℕ)) (body : List Stmt) → IsProgram params names body → Program
+abbrev program-of : (params : ℕ) (names : List (List ℕ)) (body : List Stmt) → IsProgram params names body → Program
 program-of params names body kept = record { params = params; names = names; body = body; kept = kept }
 
 -- two programs with equal fields are one
@@ -27,7 +26,7 @@ same-program m n names others body other k l a b c =
     (subst (λ z. (h : IsProgram m names z) → program-of m names body k ≡ program-of m names z h) c
     (λ h. ap (λ j. program-of m names body j) (one k h)))) l
 
-version-of : Program → List Skel → List MarkAt → Version
+abbrev version-of : Program → List Skel → List MarkAt → Version
 version-of program skeleton marks = record { program = program; skeleton = skeleton; marks = marks }
 
 -- two versions with equal fields are one
