@@ -79,7 +79,7 @@ pub check : IsNamedCommand nothing (codes "check")
 check = record { begins = nothing_begins; reads = λ p ws h. (Check p.0, (refl, h)); is = is-check }
 
 -- the two numbers of gen
-abbrev sized : ℕ → List (List ℕ) → Type 0
+abbrev pub sized : ℕ → List (List ℕ) → Type 0
 sized size = Number 1 50 size End
 
 pub sized_slot : BeginsWith (IsNumber 1 50) nothing sized

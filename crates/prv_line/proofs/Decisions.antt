@@ -2,7 +2,8 @@
 use Rattle.std.proofs.Common.{◌≡◌, ◌⊎◌, inl, inr, ℕ, ◌<◌, ◌≤◌, Bool, true, false, List, [], ◌∷◌, length, ℤ, Option, None, Some, refl, sym, ◌∙◌, ap, subst, arith}
 use Rattle.std.specs.Prelude.{◌≢◌, slice_index}
 use Rattle.std.specs.Str.{bytes_eq}
-use Rattle.std.specs.Str.Parse.{digit_value, AllDigits, IsNumeral, digits_value, signed_digits_value, without_leading_sign}
+use Rattle.std.specs.Char.{digit_value}
+use Rattle.std.specs.Str.Parse.{AllDigits, IsNumeral, digits_value, signed_digits_value, without_leading_sign}
 use Rattle.std.proofs.lemmas.Bool.{cases_lt, cases_eq, cases_Bool}
 use Rattle.std.proofs.lemmas.Slice.Eq.{bytes_eq-Decides}
 use Rattle.prv_model.specs.Words.{IsWord, is_word}
@@ -19,8 +20,8 @@ Decided P = P ⊎ (P → ⊥)
 
 both : (P Q : Type 0) → Decided P → Decided Q → Decided (P × Q)
 both P Q (inl p) (inl q) = inl (p, q)
-both P Q (inl p) (inr no) = inr (λ h. no h.1)
-both P Q (inr no) q = inr (λ h. no h.0)
+both P Q (inl p) (inr never) = inr (λ h. never h.1)
+both P Q (inr never) q = inr (λ h. never h.0)
 
 decided-le : (a b : ℕ) → Decided (a ≤ b)
 decided-le a b = by (cases_lt b a)
@@ -54,8 +55,8 @@ decided-word : (n : ℤ) → Decided (IsWord n)
 decided-word n = by (cases_Bool (is_word n))
   where
     by : (is_word n ≡ true) ⊎ (is_word n ≡ false) → Decided (IsWord n)
-    by (inl yes) = inl (tested-word n yes)
-    by (inr no) = inr (λ h. let yes = word-tested n h in cc)
+    by (inl tested) = inl (tested-word n tested)
+    by (inr never) = inr (λ h. let tested = word-tested n h in cc)
 
 pub decided-name : (word : List ℕ) → Decided (IsName word)
 decided-name word = both (0 < length word) (slice_index word 0 ≢ 45) (decided-lt 0 (length word)) (decided-differ (slice_index word 0) 45)
@@ -63,16 +64,16 @@ decided-name word = both (0 < length word) (slice_index word 0 ≢ 45) (decided-
 pub decided-number : (least most : ℕ) (word : List ℕ) → Decided (IsNumber least most word)
 decided-number least most word = by (both _ _ (decided-numeral word) (both _ _ (decided-le (length word) 10) (both _ _ (decided-le least (digits_value 10 word)) (decided-le (digits_value 10 word) most))))
   where
-    by : Decided (IsNumeral 10 word × (length word ≤ 10) × (least ≤ digits_value 10 word) × (digits_value 10 word ≤ most)) → Decided (IsNumber least most word)
-    by (inl (digits, short, low, high)) = inl (record { digits = digits; short = short; low = low; high = high })
-    by (inr no) = inr (λ h. no (h.digits, h.short, h.low, h.high))
+    by : Decided (IsNumeral 10 word × ((length word ≤ 10) × ((least ≤ digits_value 10 word) × (digits_value 10 word ≤ most)))) → Decided (IsNumber least most word)
+    by (inl (digits, (short, (low, high)))) = inl (record { digits = digits; short = short; low = low; high = high })
+    by (inr never) = inr (λ h. never (h.digits, (h.short, (h.low, h.high))))
 
 pub decided-signed : (word : List ℕ) → Decided (IsSigned word)
 decided-signed word = by (both _ _ (decided-differ (slice_index word 0) 43) (both _ _ (decided-numeral (without_leading_sign word)) (both _ _ (decided-le (length (without_leading_sign word)) 10) (decided-word (signed_digits_value 10 word)))))
   where
-    by : Decided ((slice_index word 0 ≢ 43) × IsNumeral 10 (without_leading_sign word) × (length (without_leading_sign word) ≤ 10) × IsWord (signed_digits_value 10 word)) → Decided (IsSigned word)
-    by (inl (unsigned, digits, short, fits)) = inl (record { unsigned = unsigned; digits = digits; short = short; fits = fits })
-    by (inr no) = inr (λ h. no (h.unsigned, h.digits, h.short, h.fits))
+    by : Decided ((slice_index word 0 ≢ 43) × (IsNumeral 10 (without_leading_sign word) × ((length (without_leading_sign word) ≤ 10) × IsWord (signed_digits_value 10 word)))) → Decided (IsSigned word)
+    by (inl (unsigned, (digits, (short, fits)))) = inl (record { unsigned = unsigned; digits = digits; short = short; fits = fits })
+    by (inr never) = inr (λ h. never (h.unsigned, (h.digits, (h.short, h.fits))))
 
 pub decided-value : (name : OptionName) (text : List ℕ) → Decided (IsValue name text)
 decided-value Turns text = decided-number 1 256 text
@@ -85,8 +86,8 @@ pub decided-equal : (a b : List ℕ) → Decided (a ≡ b)
 decided-equal a b = by (cases_Bool (bytes_eq a b))
   where
     by : (bytes_eq a b ≡ true) ⊎ (bytes_eq a b ≡ false) → Decided (a ≡ b)
-    by (inl yes) = inl ((bytes_eq-Decides a b).0 yes)
-    by (inr no) = inr (λ h. let yes = (bytes_eq-Decides a b).1 h in cc)
+    by (inl tested) = inl ((bytes_eq-Decides a b).0 tested)
+    by (inr never) = inr (λ h. let tested = (bytes_eq-Decides a b).1 h in cc)
 
 -- a word is that of this option, with a value in it or without
 abbrev IsHeadOf : List ℕ → OptionName → Type 0
@@ -97,14 +98,14 @@ decided-head_of word name = by (decided-equal word (head_word name None)) (decid
   where
     by : Decided (word ≡ head_word name None) → Decided (word ≡ head_word name (Some (value_in word))) → Decided (IsHeadOf word name)
     by (inl is) other = inl (None, is)
-    by (inr no) (inl is) = inl (Some (value_in word), is)
-    by (inr no) (inr never) = inr neither
+    by (inr never) (inl is) = inl (Some (value_in word), is)
+    by (inr not_alone) (inr not_held) = inr neither
       where
         neither : IsHeadOf word name → ⊥
-        neither (None, is) = no is
+        neither (None, is) = not_alone is
         neither (Some v, is) =
             let value : value_in word ≡ v = ap value_in is ∙ value_in-head name v in
-            never (is ∙ ap (λ (x : List ℕ). head_word name (Some x)) (sym value))
+            not_held (is ∙ ap (λ (x : List ℕ). head_word name (Some x)) (sym value))
 
 -- a word is that of an option
 pub record IsHead (word : List ℕ) : Type 0 where

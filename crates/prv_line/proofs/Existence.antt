@@ -33,7 +33,7 @@ answered-slot {U} P L M b decided behind (w ∷ ws) = by (decided w) (behind ws)
     by : Decided (P w) → Answered L ws → Answered M (w ∷ ws)
     by (inl p) (inl (u, l)) = inl (b.into w u ws p l)
     by (inl p) (inr (k, r)) = inr (suc k, refused_rest P L M b w ws k p r)
-    by (inr no) rest = inr (0, refused_word P L M b (w ∷ ws) (λ word more is p. let same : w ≡ word = cc in no (subst P (sym same) p)))
+    by (inr never) rest = inr (0, refused_word P L M b (w ∷ ws) (λ word more is p. let same : w ≡ word = cc in never (subst P (sym same) p)))
 
 -- the words of an input
 inputs-from : (front rest : List (List ℕ)) → AllByRecursion IsSigned front → length front ≤ 8 → Answered Inputs (front ++ rest)
@@ -58,7 +58,7 @@ inputs-from front (w ∷ rest) all few = by (decided-signed w) (decided-lt (leng
         let A : List (List ℕ) → Type 0 = λ ws. Answered Inputs ws in
         subst A (joined front) (go (one-more front all s) (omega (arith, length-append front (w ∷ []))))
     by (inl s) (inr long) go = inr (length front, bad-word front w rest all few (λ _ short. long short))
-    by (inr no) short go = inr (length front, bad-word front w rest all few (λ s _. no s))
+    by (inr never) short go = inr (length front, bad-word front w rest all few (λ s _. never s))
 
 answered-inputs : (words : List (List ℕ)) → Answered Inputs words
 answered-inputs words = inputs-from [] words tt (omega arith)
@@ -114,7 +114,7 @@ first-word allowed s w ws given = by (decided-head w)
     of-head h (inr never) = inr (0, refused_name allowed s w ws h.name h.value h.is never)
     by : Decided (IsHead w) → Answered (Options allowed s) (w ∷ ws)
     by (inl h) = of-head h (cases_Bool (is_allowed allowed h.name))
-    by (inr no) = inr (0, refused_head allowed s w ws (λ n value is may. no (record { name = n; value = value; is = is })))
+    by (inr never) = inr (0, refused_head allowed s w ws (λ n value is may. never (record { name = n; value = value; is = is })))
 
 answered-options : (words : List (List ℕ)) → OptionsFrom words
 answered-options [] allowed s = inl (s, no_options allowed s)
@@ -150,7 +150,7 @@ try command word ws answered others = by (decided-equal word command)
   where
     by : Decided (word ≡ command) → Answered Reads (word ∷ ws)
     by (inl is) = of-command command word ws is answered
-    by (inr no) = others no
+    by (inr never) = others never
 
 pub answered-words : (words : List (List ℕ)) → Answered Reads words
 answered-words [] = inr (0, no_words_at_all)
