@@ -5,8 +5,6 @@ mod evaluate;
 mod execute;
 mod points;
 mod runs;
-#[cfg(test)]
-mod tests;
 
 pub use points::point_entries;
 pub use runs::run;

@@ -1,0 +1,13 @@
+pub mod PlaceLaws
+pub mod NumberLaws
+pub mod WordLaws
+pub mod SumLaws
+pub mod OrderLaws
+pub mod ProductLaws
+pub mod DivisionSteps
+pub mod DivisionLaws
+pub mod ShiftLaws
+pub mod LogicLaws
+pub mod SignedLaws
+pub mod OperatorLaws
+pub mod WorkedRows

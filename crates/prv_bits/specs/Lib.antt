@@ -1,0 +1,9 @@
+pub mod Gates
+pub mod Places
+pub mod Numbers
+pub mod Sums
+pub mod Orders
+pub mod Products
+pub mod Quotients
+pub mod Shifts
+pub mod Operators
