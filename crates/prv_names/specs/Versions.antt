@@ -102,8 +102,9 @@ marks_else branch inside = else_marks (option_map (λ s. marks s) branch) inside
 abbrev pub marks_of : List StmtTree → List MarkAt
 marks_of body = in_order (map (λ s. marks s) body) false
 
--- the version that a tree is
+-- the version that a tree is, where nothing is wrong with its names
 pub record IsVersionOf (tree : Tree) (version : Version) : Type 0 where
+  pub right : refusal tree.params tree.body ≡ None
   pub params : version.program.params ≡ length tree.params
   pub names : version.program.names ≡ variables tree.params tree.body
   pub body : version.program.body ≡ map (λ s. numbered (variables tree.params tree.body) s) tree.body

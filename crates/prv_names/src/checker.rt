@@ -30,7 +30,6 @@ use std::alloc::Global;
 ///
 /// `Memory` where memory ran out.
 pub fn check(alloc: Global, tree: Tree) -> Result<Version, NameError>
-    ensures accepted { IfOk result (λ version. refusal tree.params tree.body ≡ None) }
     ensures version { IfOk result (λ version. IsVersionOf tree version) }
     ensures refused { IfErr result (λ e. (e ≡ NameError.Memory) ⊎ (refusal tree.params tree.body ≡ Some e)) }
 {
