@@ -1,5 +1,3 @@
-pub mod Capped
-pub mod Spelling
-pub mod Reading
-pub mod Answering
-pub mod FileLaws
+pub mod Following
+pub mod OneAnswer
+pub mod OneEach

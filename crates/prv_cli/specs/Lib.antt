@@ -1,4 +1,8 @@
-pub mod Texts
-pub mod Faults
-pub mod Versions
+pub mod Refusals
+pub mod Statuses
+pub mod Steps
+pub mod Readings
+pub mod Runs
+pub mod Points
+pub mod Commands
 pub mod Answers

@@ -1,16 +1,16 @@
 //! Laws of the definitions, each the contract of a function that does nothing.
 
-ghost use Rattle.std.specs.Prelude.{◌≡◌, ℕ, List};
-ghost use Rattle.prv_names.specs.declared.version.Version.{Version};
-ghost use Rattle.prv_cli.specs.Versions.{GivesVersion, IsFileRefused};
-ghost use Rattle.prv_cli.specs.declared.fault.FileFault.{FileFault};
+ghost use Rattle.std.specs.Prelude.{◌≡◌, ◌≢◌, ℕ, List, Result};
+ghost use Rattle.prv_io.specs.Files.{Known, Unknown};
+ghost use Rattle.prv_cli.specs.Steps.{Told, Trace};
+ghost use Rattle.prv_cli.specs.Commands.{says};
+ghost use Rattle.prv_cli.specs.Answers.{Agree};
+ghost use Rattle.prv_cli.specs.declared.status.Status.{Status};
+ghost use Rattle.prv_cli.specs.declared.refusal.Refusal.{Refusal};
 
-/// A file that gives a version isn't refused.
-pub fn given_or_refused()
-    ensures { (file : List ℕ) (version : Version) (why : FileFault) → GivesVersion file version → IsFileRefused file why → ⊥ }
-{}
-
-/// A file is refused for one reason, at one place.
-pub fn one_reason()
-    ensures { (file : List ℕ) (why how : FileFault) → IsFileRefused file why → IsFileRefused file how → why ≡ how }
+/// Where it is known of each file what it holds or that it is absent, words do one thing and have one answer,
+/// but for a read or a write that fails and for want of memory.
+pub fn one_answer()
+    ensures { (told : Told) (words : List (List ℕ)) (trace other : Trace) (answer another : Result Status Refusal) → ((name : List ℕ) → told name ≢ Unknown)
+        → says words told trace answer → says words told other another → Agree trace answer other another }
 {}

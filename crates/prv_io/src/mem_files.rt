@@ -1,8 +1,9 @@
 //! Files in memory.
-ghost use Rattle.std.specs.Prelude.{◌≡◌, ◌↔◌, ◌<◌, ◌≤◌, [], length, false, IsTrue, IfSome, IsSomeAnd, OnOk, OnErr, IsErrOf, is_none};
+ghost use Rattle.std.specs.Prelude.{◌≡◌, ◌↔◌, ◌<◌, ◌≤◌, [], length, false, IsTrue, IsSomeAnd, OnOk, OnErr, IsErrOf};
 ghost use Rattle.std.specs.Option.{option_copied};
 ghost use Rattle.prv_io.specs.FaultPlan.{fresh};
-ghost use Rattle.prv_io.specs.MemFiles.{bytes_named, read_fails, after_read};
+ghost use Rattle.prv_io.specs.MemFiles.{bytes_named, known_of, read_fails, after_read};
+ghost use Rattle.prv_io.specs.Files.{MayHold};
 
 use crate::fault_plan::FaultPlan;
 use crate::{FileError, Files};
@@ -84,9 +85,9 @@ fn copy_bytes(bytes: &[u8], limit: u32, into: &mut Vec<u8>) -> Result<(), FileEr
 impl Files for MemFiles {
     ghost faults = { λ m. m.plan.faults };
 
-    ghost content = { λ m. bytes_named m.files };
+    ghost known = { λ m name. known_of (bytes_named m.files name) };
 
-    ghost lacks = { λ m name. is_none (bytes_named m.files name) };
+    ghost reads = { λ before name after. after ≡ after_read before name };
 
     fn read(&mut self, name: &str, limit: u32, into: &mut Vec<u8>) -> Result<(), FileError>
         ensures fails { IsErrOf result FileError.Failed ↔ IsTrue (read_fails self.old name.now) }
@@ -94,7 +95,7 @@ impl Files for MemFiles {
         ensures longer { IsErrOf result FileError.TooLong ↔ ((read_fails self.old name.now ≡ false) × IsSomeAnd (bytes_named self.old.files name.now) (λ told. limit < length told)) }
 
         ensures never_falls { self.old.plan.faults ≤ self.new.plan.faults }
-        ensures bytes { OnOk result (IfSome (bytes_named self.old.files name.now) (λ told. into.new.items ≡ told)) }
+        ensures bytes { OnOk result (MayHold (known_of (bytes_named self.old.files name.now)) into.new.items) }
         ensures within { OnOk result (length into.new.items ≤ limit) }
         ensures emptied { OnErr result (into.new.items ≡ []) }
     {

@@ -1,6 +1,7 @@
 -- What stands at the front of a text: a gap, which is a blank or a comment, or a token, as long as possible, or what can't be read.
 use Rattle.std.specs.Prelude.{◌≡◌, [], ◌∷◌, ◌++◌, ℕ, ◌+◌, nat_lt, nat_eq, List, drop, length, slice_index, Option, Some, None, codes, ℤ, if◌then◌else◌}
 use Rattle.std.specs.List.{prefix_len, take_while, starts_with}
+use Rattle.prv_model.specs.declared.limits.TheConstants.{MAX_NAME}
 use Rattle.prv_lex.specs.Bytes.{is_blank, is_letter, is_digit, is_word_byte, is_line_byte}
 use Rattle.prv_lex.specs.Keywords.{keyword_of}
 use Rattle.prv_lex.specs.Numbers.{number_of}
@@ -40,9 +41,9 @@ StopsWith (Gap len) place e = ⊥
 StopsWith (Token tok len) place e = e ≡ error.Memory
 StopsWith (Refused why) place e = e ≡ error.Refused place why
 
--- a run of letters, digits and `_`: a reserved word or a name of at most 63 bytes
+-- a run of letters, digits and `_`: a reserved word or a name within the limit
 abbrev pub word_front : List ℕ → Front
-word_front word = if nat_lt 63 (length word) then Refused why.NameLong else Token (named (keyword_of word) word) (length word)
+word_front word = if nat_lt MAX_NAME (length word) then Refused why.NameLong else Token (named (keyword_of word) word) (length word)
 
 -- a run of digits that is worth this, if it is a number
 abbrev pub numbered : Option ℤ → ℕ → Front

@@ -1,6 +1,7 @@
 -- How tokens are spelled, and when one is as long as possible.
 use Rattle.std.specs.Prelude.{◌≡◌, ℕ, ◌<◌, ◌≤◌, true, List, ◌++◌, length, slice_index, Some, ◌⊎◌}
 use Rattle.std.specs.List.{list_all}
+use Rattle.prv_model.specs.declared.limits.TheConstants.{MAX_NAME}
 use Rattle.prv_lex.specs.Bytes.{is_letter, is_digit, is_word_byte}
 use Rattle.prv_lex.specs.Keywords.{keyword}
 use Rattle.prv_lex.specs.Symbols.{symbol}
@@ -28,7 +29,7 @@ IsLongest bytes rest = (more after : List ℕ) → rest ≡ more ++ after → 0 
 
 -- a token is spelled by these bytes
 abbrev pub Spells : Tok → List ℕ → Type 0
-Spells (tok.Name name) bytes = (bytes ≡ name) × IsWord bytes × (length bytes ≤ 63) × ((k : Key) → bytes ≡ keyword k → ⊥)
+Spells (tok.Name name) bytes = (bytes ≡ name) × IsWord bytes × (length bytes ≤ MAX_NAME) × ((k : Key) → bytes ≡ keyword k → ⊥)
 Spells (tok.Num n) bytes = IsDigits bytes × (number_of bytes ≡ Some n)
 Spells (tok.Key k) bytes = bytes ≡ keyword k
 Spells (tok.Sym s) bytes = bytes ≡ symbol s

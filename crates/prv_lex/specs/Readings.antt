@@ -1,5 +1,6 @@
 -- Which tokens a file has, and where and why it is refused: said of the pieces that it is made of, and not of how it is read.
 use Rattle.std.specs.Prelude.{◌≡◌, ℕ, ◌+◌, ◌<◌, ◌≤◌, false, List, [], ◌∷◌, ◌++◌, drop, length, slice_index, None, codes, ◌⊎◌}
+use Rattle.prv_model.specs.declared.limits.TheConstants.{MAX_FILE, MAX_NAME}
 use Rattle.prv_lex.specs.Bytes.{is_blank}
 use Rattle.prv_lex.specs.Numbers.{number_of}
 use Rattle.prv_lex.specs.Comments.{closing}
@@ -26,7 +27,7 @@ abbrev pub IsWrong : LexWhy → List ℕ → Type 0
 IsWrong Long text = ⊥
 IsWrong Byte text = (0 < length text) × (is_blank (slice_index text 0) ≡ false) × BeginsNoComment text × ((front rest : List ℕ) → text ≡ front ++ rest → IsLexeme front → ⊥)
 IsWrong Number text = (digits rest : List ℕ) × (text ≡ digits ++ rest) × IsDigits digits × IsLongest digits rest × (number_of digits ≡ None)
-IsWrong NameLong text = (word rest : List ℕ) × (text ≡ word ++ rest) × IsWord word × IsLongest word rest × (63 < length word)
+IsWrong NameLong text = (word rest : List ℕ) × (text ≡ word ++ rest) × IsWord word × IsLongest word rest × (MAX_NAME < length word)
 IsWrong Comment text = (rest : List ℕ) × (text ≡ codes "/*" ++ rest) × (closing rest ≡ None)
 
 -- in a text that begins at a place, the first of these comes at another place, behind tokens, blanks and comments alone
@@ -36,14 +37,14 @@ pub data StopsAt : ℕ → List ℕ → ℕ → LexWhy → Type 0 where
 
 -- a file has these tokens
 pub record HasTokens (file : List ℕ) (tokens : List Token) : Type 0 where
-  pub short : length file ≤ 65536
+  pub short : length file ≤ MAX_FILE
   pub made : IsMadeOf 0 file tokens
 
 -- a file is refused at this place for this reason
 abbrev pub IsRefused : List ℕ → ℕ → LexWhy → Type 0
 IsRefused file place why =
-    ((65536 < length file) × (place ≡ 65536) × (why ≡ Long))
-    ⊎ ((length file ≤ 65536) × StopsAt 0 file place why)
+    ((MAX_FILE < length file) × (place ≡ MAX_FILE) × (why ≡ Long))
+    ⊎ ((length file ≤ MAX_FILE) × StopsAt 0 file place why)
 
 -- the places of the tokens rise from one place on, and stay below another
 abbrev pub PlacesRise : ℕ → ℕ → List Token → Type 0

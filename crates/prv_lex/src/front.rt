@@ -11,11 +11,8 @@ use crate::number::number;
 use crate::symbol::symbol;
 use crate::token::Tok;
 use crate::word::keyword;
-use prv_model::Name;
+use prv_model::{MAX_NAME, Name};
 use std::alloc::{AllocError, Global};
-
-/// The greatest length of a name, in bytes.
-const NAME_BYTES: usize = 63;
 
 /// What a text begins with.
 #[derive(Drop)]
@@ -75,7 +72,7 @@ pub fn word_at(alloc: Global, word: &[u8]) -> Result<Front, AllocError>
     requires { 0 < length word.now }
     ensures { IfOk result (λ found. found ≡ word_front word.now) }
 {
-    if word.len() > NAME_BYTES {
+    if word.len() > MAX_NAME {
         return Ok(Front::Refused(LexWhy::NameLong));
     }
     if let Some(key) = keyword(word) {

@@ -1,4 +1,5 @@
 ghost use Rattle.std.specs.Prelude.{◌≡◌, ℕ, List, ◌<◌, ◌≤◌, IfOk, IfErr, IsErrOf, MatchResult, ◌⊎◌};
+ghost use Rattle.prv_model.specs.declared.limits.TheConstants.{MAX_FILE};
 ghost use Rattle.prv_lex.specs.declared.error.LexWhy.{LexWhy};
 ghost use Rattle.prv_lex.specs.declared.token.Token.{Token};
 ghost use Rattle.prv_lex.specs.Readings.{HasTokens, IsRefused};
@@ -8,10 +9,8 @@ use crate::class::{is_blank, is_letter};
 use crate::error::{LexError, LexWhy};
 use crate::front::{Front, other_front, word_at, word_of};
 use crate::token::Token;
+use prv_model::MAX_FILE;
 use std::alloc::Global;
-
-/// The greatest length of a file, in bytes.
-const FILE_BYTES: usize = 65_536;
 
 /// The tokens of a file, in order, each as long as possible and with the place of its first byte.
 ///
@@ -29,9 +28,9 @@ pub fn tokens(alloc: Global, bytes: &[u8]) -> Result<Vec<Token>, LexError>
     ensures refuses { (place : ℕ) (why : LexWhy) → IsRefused bytes.now place why →
         MatchResult result (λ _. ⊥) (λ e. (e ≡ LexError.Refused place why) ⊎ (e ≡ LexError.Memory)) }
 {
-    if bytes.len() > FILE_BYTES {
+    if bytes.len() > MAX_FILE {
         return Err(LexError::Refused {
-            place: 65_536,
+            place: MAX_FILE as u32,
             why: LexWhy::Long,
         });
     }
@@ -53,8 +52,8 @@ pub fn tokens(alloc: Global, bytes: &[u8]) -> Result<Vec<Token>, LexError>
 
 /// Adds what stands at a place to the tokens, and returns the place behind it.
 fn add_front(found: &mut Vec<Token>, place: usize, front: Front) -> Result<usize, LexError>
-    requires near { place < 65_536 }
-    requires short { len_of front ≤ 65_536 }
+    requires near { place < MAX_FILE }
+    requires short { len_of front ≤ MAX_FILE }
     ensures added { IfOk result (λ next. IsAdded front place found.old.items found.new.items next) }
     ensures stopped { IfErr result (λ e. StopsWith front place e) }
 {

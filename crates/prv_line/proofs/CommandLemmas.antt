@@ -79,10 +79,10 @@ pub check : IsNamedCommand nothing (codes "check")
 check = record { begins = nothing_begins; reads = λ p ws h. (Check p.0, (refl, h)); is = is-check }
 
 -- the two numbers of gen
-abbrev sized : ℕ → List (List ℕ) → Type 0
+abbrev pub sized : ℕ → List (List ℕ) → Type 0
 sized size = Number 1 50 size End
 
-sized_slot : BeginsWith (IsNumber 1 50) nothing sized
+pub sized_slot : BeginsWith (IsNumber 1 50) nothing sized
 sized_slot = record {
   into = λ word u ws p l. (digits_value 10 word, (p, refl, l));
   passes = λ n word ws m. m.0;
@@ -102,7 +102,7 @@ is-gen : (c : Command) (ws : List (List ℕ)) → Reads c (codes "gen" ∷ ws) �
 is-gen (Gen n s) ws r = record { number = n; size = s; holds = r.1 }
 is-gen _ ws r = absurd (apart r.0 refl)
 
-gen_slot : BeginsWith (IsNumber 0 4294967295) sized (after (codes "gen"))
+pub gen_slot : BeginsWith (IsNumber 0 4294967295) sized (after (codes "gen"))
 gen_slot = record {
   into = λ word size ws p l. (Gen (digits_value 10 word) size, (refl, (p, refl, l)));
   passes = λ c word ws r. (is-gen c (word ∷ ws) r).holds.0;
@@ -138,7 +138,7 @@ gen_end ws rest more word size e p f q some =
 reads_begin : Begins Reads []
 reads_begin = (codes "check" ∷ codes "J" ∷ [], Check (codes "J"), (refl, (search rules, (refl, refl))))
 
-no_words_at_all : IsUsage [] 0
+pub no_words_at_all : IsUsage [] 0
 no_words_at_all = refused_none Reads reads_begin none
   where
     none : (c : Command) → Reads c [] → ⊥

@@ -9,7 +9,7 @@ use Rattle.prv_line.specs.declared.option.OptionName.TheVariants.{Turns, Lines, 
 name_in : List ℕ → List ℕ
 name_in word = before_first (λ b. eqb b 61) word
 
-value_in : List ℕ → List ℕ
+pub value_in : List ℕ → List ℕ
 value_in word = after_first (λ b. eqb b 61) word
 
 holds_value : List ℕ → Bool
@@ -28,7 +28,7 @@ name_in-head Workers (Some v) = refl
 name_in-head Journal None = refl
 name_in-head Journal (Some v) = refl
 
-value_in-head : (n : OptionName) (v : List ℕ) → value_in (head_word n (Some v)) ≡ v
+pub value_in-head : (n : OptionName) (v : List ℕ) → value_in (head_word n (Some v)) ≡ v
 unfolding value_in
 value_in-head Turns v = refl
 value_in-head Lines v = refl

@@ -48,7 +48,7 @@ no_words_refused [] e = no_inputs
 no_words_refused (w ∷ ws) e = absurd (omega arith)
 
 -- a word that is no number, or is the ninth
-bad-word : (front : List (List ℕ)) (w : List ℕ) (rest : List (List ℕ)) → AllByRecursion IsSigned front → length front ≤ 8 → (IsSigned w → length front < 8 → ⊥)
+pub bad-word : (front : List (List ℕ)) (w : List ℕ) (rest : List (List ℕ)) → AllByRecursion IsSigned front → length front ≤ 8 → (IsSigned w → length front < 8 → ⊥)
     → IsRefused Inputs (front ++ w ∷ rest) (length front)
 bad-word front w rest all few wrong = record {
   within = omega (arith, length-append front (w ∷ rest));

@@ -10,3 +10,5 @@ pub mod Slots
 pub mod CommandLemmas
 pub mod ResumeLemmas
 pub mod AnswerLemmas
+pub mod Decisions
+pub mod Existence

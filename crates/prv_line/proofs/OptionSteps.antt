@@ -14,7 +14,7 @@ use Rattle.prv_line.proofs.Heads.{head_word-injective}
 use Rattle.prv_line.proofs.OptionLemmas.{put_option, drop_option}
 use Rattle.prv_line.proofs.Refusals.{refused_first, refused_none, refused_behind}
 
-abbrev one : OptionName → List ℕ → Bool → Choice
+abbrev pub one : OptionName → List ℕ → Bool → Choice
 one n v joined = record { name = n; value = v; joined = joined }
 
 -- no option at all

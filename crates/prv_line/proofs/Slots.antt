@@ -47,7 +47,7 @@ pub record IsNamedCommand {U : Type 0} (L : U → List (List ℕ) → Type 0) (w
   pub reads : (p : List ℕ × U) (ws : List (List ℕ)) → named L p ws → (c : Command) × Reads c (word ∷ ws)
   pub is : (c : Command) (ws : List (List ℕ)) → Reads c (word ∷ ws) → (p : List ℕ × U) × named L p ws
 
-command_slot : {U : Type 0} (L : U → List (List ℕ) → Type 0) (word : List ℕ) → IsNamedCommand L word → BeginsWith IsName L (after word)
+pub command_slot : {U : Type 0} (L : U → List (List ℕ) → Type 0) (word : List ℕ) → IsNamedCommand L word → BeginsWith IsName L (after word)
 command_slot L word n = record {
   into = λ name u ws p l. n.reads (name, u) (name ∷ ws) (p, (refl, l));
   passes = λ c name ws r. let q = n.is c (name ∷ ws) r in passes q.0.0 name (L q.0.1) ws q.1;

@@ -17,5 +17,5 @@ mod text;
 
 pub use command::{Command, Plan};
 pub use error::LineError;
-pub use laws::{one_command, one_usage};
+pub use laws::{command_or_usage, one_command, one_usage};
 pub use reader::read_words;

@@ -19,7 +19,7 @@ pub const MAX_NAME: usize = 63;
 pub const MAX_FILE: usize = 65_536;
 
 /// The most constructs that are open at once.
-pub const MAX_OPEN: usize = 100;
+pub const MAX_OPEN: u32 = 100;
 
 /// The most operators of one expression.
-pub const MAX_OPERATORS: usize = 256;
+pub const MAX_OPERATORS: u32 = 256;

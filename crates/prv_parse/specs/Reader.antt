@@ -1,5 +1,6 @@
 -- A reader of the grammar as functions: what the code's inner calls come to. The grammar itself is said in `Grammar`.
 use Rattle.std.specs.Prelude.{ℕ, zero, suc, ◌-◌, ◌==◌, nat_le, ◌&&◌, Bool, true, false, List, [], ◌∷◌, ◌++◌, length, take, Option, Some, None, pos, if◌then◌else◌}
+use Rattle.prv_model.specs.declared.limits.TheConstants.{MAX_OPEN, MAX_OPERATORS}
 use Rattle.prv_lex.specs.declared.token.Tok.{Tok}
 use Rattle.prv_lex.specs.declared.token.Tok.TheVariants as tok
 use Rattle.prv_lex.specs.declared.token.Key.TheVariants as key
@@ -91,7 +92,7 @@ pub record Read : Type 0 where
 
 -- an operator, where the full expression may have one more
 abbrev pub operator : {A : Type 0} → ℕ → Token → List Token → (ℕ → List Token → Out A) → Out A
-operator n t rest next = if nat_le 256 n then Many (t ∷ rest) else next (suc n) rest
+operator n t rest next = if nat_le MAX_OPERATORS n then Many (t ∷ rest) else next (suc n) rest
 
 abbrev pub ReadExpr : Type 0
 ReadExpr = ℕ → List Token → Out Read
@@ -390,5 +391,5 @@ at_end a (t ∷ rest) = Bad (t ∷ rest)
 abbrev pub program : List Token → Out ReadProgram
 program tokens = bind (expect is_int tokens) (λ i r. bind (expect is_main r) (λ m s. bind (expect is_open_paren s) (λ o u.
     bind (params (length u) u) (λ names v. bind (expect is_close_paren v) (λ c w. bind (expect is_open_brace w) (λ b x.
-    bind (block 100 (statements 100).here (statements 100).deeper x) (λ all y.
+    bind (block MAX_OPEN (statements MAX_OPEN).here (statements MAX_OPEN).deeper x) (λ all y.
     at_end (record { params = names.names; body = all.trees; skeleton = i ++ m ++ o ++ names.skeleton ++ c ++ b ++ all.skeleton }) y)))))))

@@ -1,5 +1,6 @@
 -- Which tokens have a tree within the limits, and where the first refusal is.
 use Rattle.std.specs.Prelude.{◌≡◌, ℕ, ◌+◌, ◌<◌, nat_lt, nat_le, Bool, true, ◌&&◌, ◌||◌, not, List, [], ◌∷◌, ◌++◌, length, ◌⊎◌}
+use Rattle.prv_model.specs.declared.limits.TheConstants.{MAX_OPEN, MAX_OPERATORS}
 use Rattle.prv_lex.specs.declared.token.Token.{Token}
 use Rattle.prv_parse.specs.Operators.{is_operator}
 use Rattle.prv_parse.specs.Texts.{Laid, tokens_of}
@@ -8,13 +9,13 @@ use Rattle.prv_parse.specs.declared.skeleton.Skel.{Skel}
 use Rattle.prv_parse.specs.declared.tree.Ident.{Ident}
 use Rattle.prv_parse.specs.declared.tree.StmtTree.{StmtTree}
 
--- a token inside more than 100 open constructs
+-- a token inside more open constructs than the limit
 abbrev pub is_deep : Laid → Bool
-is_deep t = nat_lt 100 t.inside
+is_deep t = nat_lt MAX_OPEN t.inside
 
 -- the 257th operator of its full expression, or a later one
 abbrev pub is_many : Laid → Bool
-is_many t = is_operator t.token.tok && nat_le 256 t.before
+is_many t = is_operator t.token.tok && nat_le MAX_OPERATORS t.before
 
 -- a token past a limit
 abbrev pub is_over : Laid → Bool

@@ -9,12 +9,9 @@ use crate::operators::{binary, tier, unary};
 use crate::stop::Stop;
 use crate::tree::{ExprTree, Ident};
 use prv_lex::{Sym, Tok, Token};
-use prv_model::BinOp;
+use prv_model::{BinOp, MAX_OPERATORS};
 use sqlite_items::Boxed;
 use std::alloc::Global;
-
-/// How many operators a full expression may have.
-const OPERATORS: u32 = 256;
 
 /// The loosest tier of operators between two operands.
 const LOOSEST: u32 = 10;
@@ -53,7 +50,7 @@ impl<'t> Cursor<'t> {
         if self.at_fixed(Fixed::Question).is_none() {
             return Ok(test);
         }
-        if test.before >= OPERATORS {
+        if test.before >= MAX_OPERATORS {
             return Err(Stop::Operators);
         }
         self.advance();
@@ -128,7 +125,7 @@ impl<'t> Cursor<'t> {
         if self.peek().is_none() {
             return Err(Stop::Syntax);
         }
-        if left.before >= OPERATORS {
+        if left.before >= MAX_OPERATORS {
             return Err(Stop::Operators);
         }
         self.advance();
@@ -196,7 +193,7 @@ impl<'t> Cursor<'t> {
         ensures reads { ReadsExpr (with_unary (unary_of sym) sym token.now (readers (room - 1)).expression (readers (room - 1)).operand before (drop (self.old.at + 1) self.old.tokens.now)) (left_of self.new) result }
     {
         if let Some(op) = unary(sym) {
-            if before >= OPERATORS {
+            if before >= MAX_OPERATORS {
                 return Err(Stop::Operators);
             }
             self.advance();

@@ -1,6 +1,6 @@
 //! Laws of the definitions, each the contract of a function that does nothing.
 
-ghost use Rattle.std.specs.Prelude.{◌≡◌, ℕ, List};
+ghost use Rattle.std.specs.Prelude.{◌≡◌, ◌⊎◌, ℕ, List};
 ghost use Rattle.prv_lex.specs.declared.token.Token.{Token};
 ghost use Rattle.prv_parse.specs.Refusals.{HasTree, IsSyntaxAt, IsDeepAt};
 ghost use Rattle.prv_parse.specs.declared.skeleton.Skel.{Skel};
@@ -13,8 +13,11 @@ pub fn one_tree()
         HasTree tokens params body skeleton → HasTree tokens names all other → (params ≡ names) × (body ≡ all) × (skeleton ≡ other) }
 {}
 
-/// Tokens that have a tree within the limits are refused nowhere.
+/// Tokens have a tree within the limits or a first refusal, and never both.
 pub fn tree_or_refusal()
+    ensures either { (tokens : List Token) (end : ℕ) →
+        ((params : List Ident) × (body : List StmtTree) × (skeleton : List Skel) × HasTree tokens params body skeleton)
+        ⊎ (((place : ℕ) × IsSyntaxAt tokens end place) ⊎ ((place : ℕ) × IsDeepAt tokens place)) }
     ensures syntax { (tokens : List Token) (params : List Ident) (body : List StmtTree) (skeleton : List Skel) (end place : ℕ) →
         HasTree tokens params body skeleton → IsSyntaxAt tokens end place → ⊥ }
     ensures deep { (tokens : List Token) (params : List Ident) (body : List StmtTree) (skeleton : List Skel) (place : ℕ) →

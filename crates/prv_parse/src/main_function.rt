@@ -9,11 +9,9 @@ use crate::fixed::Fixed;
 use crate::reader::Reader;
 use crate::stop::Stop;
 use crate::tree::{Ident, StmtTree};
+use prv_model::MAX_OPEN;
 use sqlite_items::Items;
 use std::alloc::Global;
-
-/// The most constructs that may be open in `main`.
-const CONSTRUCTS: u32 = 100;
 
 /// The parameters and the body of `main`.
 #[derive(Drop)]
@@ -34,7 +32,7 @@ impl<'t> Reader<'t> {
         let params = self.params(alloc)?;
         self.expect(alloc, Fixed::CloseParen)?;
         self.expect(alloc, Fixed::OpenBrace)?;
-        let body = self.block(alloc, CONSTRUCTS)?;
+        let body = self.block(alloc, MAX_OPEN)?;
         match self.cursor.peek() {
             Some(_) => Err(Stop::Syntax),
             None => Ok(MainFunction { params, body }),

@@ -20,7 +20,7 @@ word_stops : (c : goal.After-drop-found-in_err-place) → Stopped c.args.bytes.n
 word_stops c =
     let letter = rw take_rest at c.is_letter.ensures in
     let run = rw take_rest at c.word_of.ensures in
-    scan-stops _ _ _ _ _ c.if-bytes-gt-FILE_BYTES.false c.loop-place.invariant c.loop-place-test.true (word-front-is (drop c.loop-place.place c.args.bytes.now) _ _ (sym letter ∙ c.if-is_letter.true) run c.in_ok-word_at.ensures) c.in_err-place.ensures.stopped
+    scan-stops _ _ _ _ _ c.if-bytes-gt-MAX_FILE.false c.loop-place.invariant c.loop-place-test.true (word-front-is (drop c.loop-place.place c.args.bytes.now) _ _ (sym letter ∙ c.if-is_letter.true) run c.in_ok-word_at.ensures) c.in_err-place.ensures.stopped
 
 pub returns-in_err-place-clause-refused : goal.returns-in_err-place-clause-refused
 returns-in_err-place-clause-refused c place why answered =
@@ -53,7 +53,7 @@ loop-place-preserved c =
 other_stops : (c : goal.After-drop-found-in_err-place-2) → Stopped c.args.bytes.now c.in_err-place-2.field-0.0
 other_stops c =
     let is = rw take_rest at c.other_front.ensures in
-    scan-stops _ _ _ _ _ c.if-bytes-gt-FILE_BYTES.false c.loop-place.invariant c.loop-place-test.true is c.in_err-place-2.ensures.stopped
+    scan-stops _ _ _ _ _ c.if-bytes-gt-MAX_FILE.false c.loop-place.invariant c.loop-place-test.true is c.in_err-place-2.ensures.stopped
 
 pub returns-in_err-place-2-clause-refused : goal.returns-in_err-place-2-clause-refused
 returns-in_err-place-2-clause-refused c place why answered =
@@ -68,7 +68,7 @@ returns-in_err-place-2-clause-refuses c place why refused =
     rw (is-err _ c.in_err-place-2.field-0.0 c.from_residual-in_err-place-2.ensures.1) (stopped-refuses _ _ place why (other_stops c) refused)
 
 pub returns-clause-found : goal.returns-clause-found
-returns-clause-found c = tokens-read _ _ c.if-bytes-gt-FILE_BYTES.false (scanned-end _ _ _ c.loop-place.invariant c.loop-place-test.false)
+returns-clause-found c = tokens-read _ _ c.if-bytes-gt-MAX_FILE.false (scanned-end _ _ _ c.loop-place.invariant c.loop-place-test.false)
 
 pub returns-clause-finds : goal.returns-clause-finds
 returns-clause-finds c list has = tokens-one _ _ list (returns-clause-found c) has

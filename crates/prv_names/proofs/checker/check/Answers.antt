@@ -1,4 +1,4 @@
-use Rattle.std.proofs.Common.{rules, ◌≡◌, ◌≤◌, List, ℕ, length, map, fold, sym, ap, ◌∙◌, arith, None}
+use Rattle.std.proofs.Common.{rules, ◌≡◌, ◌≤◌, List, ℕ, length, map, fold, refl, sym, ap, ◌∙◌, arith, None}
 use Rattle.prv_names.specs.declared.said.Said.{Said}
 use Rattle.prv_names.specs.Scopes.{start, after, first_fault}
 use Rattle.prv_names.specs.Sayings.{said_of}
@@ -11,7 +11,10 @@ returns-clause-version c =
     let tree = c.args.tree in
     let text : c.as_slice-3.result.now ≡ said_of tree.params tree.body = cc (c.as_slice-3.ensures, c.in_ok-said.ensures, c.as_slice.ensures, c.as_slice-2.ensures) in
     let names : c.in_ok-names.names ≡ variables tree.params tree.body = c.in_ok-names.ensures.names ∙ ap (λ (all : List Said). (fold after start all).declared) text in
+    let faults : first_fault start (said_of tree.params tree.body) ≡ None = ap (λ (all : List Said). first_fault start all) (sym text) ∙ c.in_ok-names.ensures.right in
+    let none : too_many tree.params tree.body ≡ None = cc (c.limits.ensures, c.in_default.is) in
     record {
+      right = rw (faults, none) refl;
       params = search rules;
       names = c.into_items.ensures ∙ names;
       body = c.in_ok-body.ensures.number ∙ ap (λ (all : List (List ℕ)). map (λ s. numbered all s) c.as_slice-4.result.now) names ∙ ap (map (λ s. numbered (variables tree.params tree.body) s)) c.as_slice-4.ensures;

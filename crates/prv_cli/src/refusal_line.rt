@@ -1,0 +1,159 @@
+//! The lines of refusals. They take no memory.
+ghost use Rattle.std.specs.Prelude.{◌≡◌, ◌≤◌, ◌+◌, ◌++◌, length};
+ghost use Rattle.arrayvec.specs.ArrayString.{array_string_len};
+ghost use Rattle.prv_cli.specs.Refusals.{who_text, lex_text, what_text, file_text, side_text, pair_text, refusal_text, refusal_line};
+
+use crate::refusal::{Refusal, Who};
+use arrayvec::ArrayString;
+use itoa::{Buffer, Integer};
+use prv_lex::LexWhy;
+use prv_marks::{PairError, Side};
+use prv_names::What;
+use prv_version::FileRefusal;
+
+/// Room for each line: two numbers of at most 40 digits and fewer than 60 other bytes.
+const LINE_BYTES: usize = 160;
+
+/// The line of a refusal, as it is written.
+pub type Line = ArrayString<LINE_BYTES>;
+
+/// The line of a refusal.
+pub fn line_of(refusal: Refusal) -> Line
+    ensures { result.bytes ≡ refusal_line refusal }
+{
+    let mut line = Line::new();
+    line.push_str("prv: ");
+    push_refusal(&mut line, refusal);
+    line.push_str("\n");
+    line
+}
+
+fn push_refusal(line: &mut Line, refusal: Refusal)
+    requires { array_string_len line.old ≤ 5 }
+    ensures text { line.new.bytes ≡ line.old.bytes ++ refusal_text refusal }
+    ensures short { array_string_len line.new ≤ 150 }
+{
+    match refusal {
+        Refusal::Usage { word } => push_labelled(line, "usage: word ", word),
+        Refusal::Later => line.push_str("later"),
+        Refusal::File { who, why } => {
+            line.push_str(who_str(who));
+            line.push_str(": ");
+            push_file_refusal(line, why);
+        }
+        Refusal::Pair(why) => push_pair_error(line, why),
+        Refusal::Inputs { given, wanted } => {
+            push_labelled(line, "inputs ", given);
+            push_labelled(line, " wanted ", wanted);
+        }
+        Refusal::Read => line.push_str("read fault"),
+        Refusal::Write => line.push_str("write fault"),
+        Refusal::Memory => line.push_str("memory"),
+    }
+}
+
+fn push_file_refusal(line: &mut Line, why: FileRefusal)
+    requires { array_string_len line.old ≤ 20 }
+    ensures text { line.new.bytes ≡ line.old.bytes ++ file_text why }
+    ensures short { array_string_len line.new ≤ array_string_len line.old + 70 }
+{
+    match why {
+        FileRefusal::Lex { place, why } => {
+            line.push_str("lex ");
+            line.push_str(lex_str(why));
+            push_labelled(line, " at ", place);
+        }
+        FileRefusal::Syntax { place } => push_labelled(line, "syntax at ", place),
+        FileRefusal::Deep { place } => push_labelled(line, "deep at ", place),
+        FileRefusal::Unknown { place } => push_labelled(line, "name unknown at ", place),
+        FileRefusal::Twice { place } => push_labelled(line, "name twice at ", place),
+        FileRefusal::NotInScope { place } => push_labelled(line, "name scope at ", place),
+        FileRefusal::TooMany { what, count } => {
+            line.push_str("too many ");
+            line.push_str(what_str(what));
+            push_labelled(line, " ", count);
+        }
+    }
+}
+
+fn push_pair_error(line: &mut Line, why: PairError)
+    requires { array_string_len line.old ≤ 20 }
+    ensures text { line.new.bytes ≡ line.old.bytes ++ pair_text why }
+    ensures short { array_string_len line.new ≤ array_string_len line.old + 120 }
+{
+    match why {
+        PairError::Params { before, after } => {
+            push_labelled(line, "pair: params ", before);
+            push_labelled(line, " and ", after);
+        }
+        PairError::MarkTwice { side, mark } => {
+            line.push_str(side_str(side));
+            push_labelled(line, ": mark ", mark);
+            line.push_str(" twice");
+        }
+        PairError::MarkInside { side, place } => {
+            line.push_str(side_str(side));
+            push_labelled(line, ": mark inside mark at ", place);
+        }
+        PairError::Unmarked { before, after } => {
+            push_labelled(line, "pair: unmarked at ", before);
+            push_labelled(line, " and ", after);
+        }
+    }
+}
+
+/// Writes a number behind a label.
+fn push_labelled<I: Integer>(line: &mut Line, label: &str, number: I)
+    requires { array_string_len line.old + length label.now ≤ 120 }
+    ensures text { line.new.bytes ≡ line.old.bytes ++ (label.now ++ I.text number) }
+    ensures short { array_string_len line.new ≤ array_string_len line.old + length label.now + 40 }
+{
+    line.push_str(label);
+    let mut buffer = Buffer::new();
+    line.push_str(buffer.format(number));
+}
+
+fn who_str(who: Who) -> &'static str
+    ensures text { result.now ≡ who_text who }
+    ensures short { length result.now ≤ 4 }
+{
+    match who {
+        Who::Old => "old",
+        Who::New => "new",
+        Who::Only => "file",
+    }
+}
+
+fn side_str(side: Side) -> &'static str
+    ensures text { result.now ≡ side_text side }
+    ensures short { length result.now ≤ 3 }
+{
+    match side {
+        Side::Before => "old",
+        Side::After => "new",
+    }
+}
+
+fn lex_str(why: LexWhy) -> &'static str
+    ensures text { result.now ≡ lex_text why }
+    ensures short { length result.now ≤ 7 }
+{
+    match why {
+        LexWhy::Long => "long",
+        LexWhy::Byte => "byte",
+        LexWhy::Number => "number",
+        LexWhy::NameLong => "name",
+        LexWhy::Comment => "comment",
+    }
+}
+
+fn what_str(what: What) -> &'static str
+    ensures text { result.now ≡ what_text what }
+    ensures short { length result.now ≤ 6 }
+{
+    match what {
+        What::Params => "params",
+        What::Vars => "vars",
+        What::Stmts => "stmts",
+    }
+}

@@ -1,0 +1,6 @@
+pub mod Lines
+pub mod Terms
+pub mod Kinds
+pub mod Entries
+pub mod Reports
+pub mod Outcomes
