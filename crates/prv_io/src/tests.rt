@@ -1,14 +1,7 @@
-use crate::{FileError, Files, HostFiles, HostSink, MemFile, MemFiles, MemSink, Sink, write_all};
+use crate::{FileError, Files, HostFiles, HostSink, Sink, write_all};
 use std::alloc::{AllocError, Global};
 use std::test::Fail;
 use std::{fs, io};
-
-fn file(alloc: Global, name: &str, bytes: &str) -> Result<MemFile, AllocError> {
-    Ok(MemFile {
-        name: name.as_bytes().to_vec(alloc)?,
-        bytes: bytes.as_bytes().to_vec(alloc)?,
-    })
-}
 
 // A read, into a vector that holds something else: what it answers, and what the vector holds then.
 fn read<F: Files>(
@@ -20,69 +13,6 @@ fn read<F: Files>(
     let mut into = b"left over".to_vec(alloc)?;
     let answer = files.read(name, limit, &mut into);
     Ok((answer, into))
-}
-
-#[test]
-fn files_in_memory_are_read_by_name(rt: HostRuntime) -> Result<(), Fail> {
-    let alloc = rt.alloc();
-    let files = vec![in alloc;
-        file(alloc, "a", "abc")?,
-        file(alloc, "b", "")?,
-        file(alloc, "a", "zz")?,
-    ]?;
-    let mut files = MemFiles::new(files, vec![in alloc; 4]?);
-    for (name, limit, answer, bytes, faults) in [
-        ("a", 3, Ok(()), "abc", 0),
-        ("a", 2, Err(FileError::TooLong), "", 0),
-        ("b", 0, Ok(()), "", 0),
-        ("a", 3, Err(FileError::Failed), "", 1),
-        ("c", 3, Err(FileError::Failed), "", 2),
-        ("a", 9, Ok(()), "abc", 2),
-    ] {
-        let (got, into) = read(alloc, &mut files, name, limit)?;
-        assert_eq!(rt; got, answer, "{name} within {limit}");
-        assert_eq!(rt; into.as_slice(), bytes.as_bytes(), "{name} within {limit}");
-        assert_eq!(rt; files.faults(), faults, "{name} within {limit}");
-    }
-    Ok(())
-}
-
-#[test]
-fn a_sink_in_memory_takes_what_it_has_room_for(rt: HostRuntime) -> Result<(), Fail> {
-    let alloc = rt.alloc();
-    let mut sink = MemSink::new(alloc, 4, vec![in alloc; 3]?)?;
-    for (piece, count, taken, faults) in [
-        ("ab", Some(2), "ab", 0),
-        ("cde", Some(2), "abcd", 0),
-        ("", None, "abcd", 1),
-        ("e", None, "abcd", 2),
-        ("", Some(0), "abcd", 2),
-    ] {
-        assert_eq!(rt; sink.write(piece.as_bytes()).ok(), count, "{piece:?}");
-        assert_eq!(rt; sink.bytes(), taken.as_bytes(), "{piece:?}");
-        assert_eq!(rt; sink.faults(), faults, "{piece:?}");
-    }
-    Ok(())
-}
-
-#[test]
-fn a_sink_with_too_little_room_takes_the_first_bytes(rt: HostRuntime) -> Result<(), Fail> {
-    let alloc = rt.alloc();
-    for (room, succeeds, taken, faults) in [
-        (0, false, "", 1),
-        (3, false, "hel", 1),
-        (5, true, "hello", 0),
-    ] {
-        let mut sink = MemSink::new(alloc, room, Vec::new(alloc))?;
-        assert_eq!(rt;
-            write_all(&mut sink, b"hello").is_ok(),
-            succeeds,
-            "room {room}"
-        );
-        assert_eq!(rt; sink.bytes(), taken.as_bytes(), "room {room}");
-        assert_eq!(rt; sink.faults(), faults, "room {room}");
-    }
-    Ok(())
 }
 
 // A writer that takes two bytes at a time. Its second write is interrupted and its fifth fails.

@@ -26,13 +26,15 @@ fn show_stmt(line: &mut String, stmt: &StmtTree) -> Result<(), AllocError> {
         StmtTree::Declare { var, value } => show_set(line, "int ", var, value),
         StmtTree::Set { var, value } => show_set(line, "", var, value),
         StmtTree::If { test, yes, no } => {
-            show_around(line, "if(", test, ")")?;
-            show_inner(line, "<", yes, ">")?;
+            show_around(line, "if(", test, ")<")?;
+            show_stmt(line, yes.get())?;
+            line.push('>')?;
             show_else(line, no)
         }
         StmtTree::While { test, body } => {
-            show_around(line, "while(", test, ")")?;
-            show_inner(line, "<", body, ">")
+            show_around(line, "while(", test, ")<")?;
+            show_stmt(line, body.get())?;
+            line.push('>')
         }
         StmtTree::Return(value) => show_around(line, "return ", value, ";"),
         StmtTree::Out(value) => show_around(line, "out(", value, ");"),
@@ -46,7 +48,8 @@ fn show_stmt(line: &mut String, stmt: &StmtTree) -> Result<(), AllocError> {
             let number = mark.number;
             let place = mark.place;
             write!(line, "[{number}@{place} ")?;
-            show_inner(line, "", body, "]")
+            show_stmt(line, body.get())?;
+            line.push(']')
         }
     }
 }
@@ -55,21 +58,12 @@ fn show_stmt(line: &mut String, stmt: &StmtTree) -> Result<(), AllocError> {
 fn show_else(line: &mut String, branch: &Option<Boxed<StmtTree>>) -> Result<(), AllocError> {
     match branch {
         None => Ok(()),
-        Some(stmt) => show_inner(line, "else<", stmt, ">"),
+        Some(stmt) => {
+            write!(line, "else<")?;
+            show_stmt(line, stmt.get())?;
+            line.push('>')
+        }
     }
-}
-
-/// A statement, with what stands around it.
-#[cycle(show)]
-fn show_inner(
-    line: &mut String,
-    front: &str,
-    stmt: &Boxed<StmtTree>,
-    behind: &str,
-) -> Result<(), AllocError> {
-    line.push_str(front)?;
-    show_stmt(line, stmt.get())?;
-    line.push_str(behind)
 }
 
 /// `x@PLACE=value;`, with what stands before it.
