@@ -1,6 +1,7 @@
 pub mod Words
 pub mod Expressions
 pub mod Statements
+pub mod Numbers
 pub mod Programs
 pub mod Outcomes
 pub mod Terms

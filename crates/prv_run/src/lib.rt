@@ -2,11 +2,13 @@
 #![tactic(auto)]
 
 mod evaluate;
+mod event;
 mod execute;
 mod points;
 mod runs;
 #[cfg(test)]
 mod tests;
 
+pub use event::{Event, Traced, What};
 pub use points::point_entries;
 pub use runs::run;
