@@ -1,4 +1,5 @@
 pub mod WordLemmas
 pub mod WordLaws
 pub mod TermLemmas
+pub mod NumberLaws
 pub mod VerdictLaws

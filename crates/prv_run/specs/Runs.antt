@@ -59,7 +59,7 @@ abbrev pub loop_run : ℕ → Expr → (Frame → Step) → (Frame → Run) → 
 loop_run k test body inner zero f = evaluation k Tests test f
 loop_run k test body inner (suc more) f =
     Then (evaluation k Tests test f)
-         (turn_run (value test f.state) f (λ g. Then (inner g) (follow (body g) (loop_run k test body inner more))))
+    (turn_run (value test f.state) f (λ g. Then (inner g) (follow (body g) (loop_run k test body inner more))))
 
 -- statements one after another, of which the first has the number k
 abbrev pub in_turn_run : List (Stmt × (ℕ → Frame → Run)) → ℕ → Frame → Run
@@ -77,8 +77,8 @@ node_runs Stmt-F.Skip k f = Idle
 node_runs (Stmt-F.Set var e) k f = evaluation k (Sets var) e f
 node_runs (Stmt-F.If test chosen other) k f =
     Choice k test chosen.0 (option_map (λ s. s.0) other)
-      (Then (evaluation k Tests test f)
-            (branch (value test f.state) (chosen.1 (k + 1) f) (otherwise_run other (k + 1 + stmt_count chosen.0) f)))
+    (Then (evaluation k Tests test f)
+    (branch (value test f.state) (chosen.1 (k + 1) f) (otherwise_run other (k + 1 + stmt_count chosen.0) f)))
 node_runs (Stmt-F.While test body) k f = loop_run k test (exec body.0) (body.1 (k + 1)) f.turns f
 node_runs (Stmt-F.Return e) k f = evaluation k Returns e f
 node_runs (Stmt-F.Out e) k f = evaluation k Puts e f

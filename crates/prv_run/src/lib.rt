@@ -5,10 +5,12 @@ mod evaluate;
 mod event;
 mod execute;
 mod points;
+mod record;
 mod runs;
+mod sizes;
 #[cfg(test)]
 mod tests;
 
 pub use event::{Event, Traced, What};
 pub use points::point_entries;
-pub use runs::run;
+pub use runs::{run, trace};

@@ -3,6 +3,7 @@ ghost use Rattle.std.specs.Option.{option_map};
 ghost use Rattle.prv_model.specs.Programs.{stmt_over as is_below_of, expr_over as reads_below_of, all_true, passed};
 
 use crate::execute::{Frame, execute_all};
+use crate::record::Recorder;
 use prv_model::{BinOp, Ending, Expr, Stmt, UnOp};
 use sqlite_items::{Boxed, Items};
 use std::alloc::Global;
@@ -19,9 +20,7 @@ fn expr_over(expr: &Expr, n: usize) -> bool
         Expr::Un(_, a) => expr_over(a.get(), n),
         Expr::Bin(_, a, b) => expr_over(a.get(), n) && expr_over(b.get(), n),
         Expr::Pick(test, chosen, other) => {
-            expr_over(test.get(), n)
-                && expr_over(chosen.get(), n)
-                && expr_over(other.get(), n)
+            expr_over(test.get(), n) && expr_over(chosen.get(), n) && expr_over(other.get(), n)
         }
     }
 }
@@ -116,7 +115,7 @@ fn run_of(
     };
     let count = frame.state.len();
     assert!(rt; are_below(body.as_slice(), count));
-    let ending = execute_all(body.as_slice(), &mut frame)?;
+    let ending = execute_all(body.as_slice(), 0, &mut frame, &mut Recorder::Off)?;
     Ok((ending, frame.outs))
 }
 
