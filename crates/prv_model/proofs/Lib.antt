@@ -1,5 +1,6 @@
 pub mod WordLemmas
 pub mod WordLaws
+pub mod ProgramLemmas
 pub mod TermLemmas
 pub mod NumberLaws
 pub mod VerdictLaws

@@ -34,7 +34,7 @@ both : (s t : Bool) → s ≡ true → t ≡ true → (s && t) ≡ true
 both true t h k = k
 both false t h k = h
 
-outcome-same : (a b : Outcome) → outcome_eq a b ≡ true → a ≡ b
+pub outcome-same : (a b : Outcome) → outcome_eq a b ≡ true → a ≡ b
 outcome-same a b e =
     let how : a.how ≡ b.how = ending-same a.how b.how (first _ _ e) in
     let outs : a.outs ≡ b.outs = (pointwise_decides signed_Decides a.outs b.outs).0 (second (ending_eq a.how b.how) _ e) in
@@ -43,7 +43,7 @@ outcome-same a b e =
 outcome-itself : (a : Outcome) → outcome_eq a a ≡ true
 outcome-itself a = both _ _ (ending-itself a.how) ((pointwise_decides signed_Decides a.outs a.outs).1 refl)
 
-outcome-equal : (a b : Outcome) → a ≡ b → outcome_eq a b ≡ true
+pub outcome-equal : (a b : Outcome) → a ≡ b → outcome_eq a b ≡ true
 outcome-equal a b e = subst (λ (c : Outcome). outcome_eq a c ≡ true) e (outcome-itself a)
 
 long-is : (h : Ending) → is_long h ≡ true → h ≡ Long

@@ -1,18 +1,16 @@
 -- Each operator gives a word on words, and so does each term.
-use Rattle.std.proofs.Common.{◌≡◌, ℕ, zero, suc, ◌%◌, ◌^◌, ◌<◌, ◌≤◌, nat_lt, Bool, true, false, ◌&&◌, ◌||◌, not, List, [], ◌∷◌, Option, Some, None, ℤ, pos, negsuc, refl, sym, ap, ◌∙◌, subst, arith, slice_get, unwrap_or, if◌then◌else◌, All, FitsSigned, int_lt, int_le, int_div, int_rem, lit<}
-use Rattle.std.specs.Int.{w32, int_wrap, int_shl, int_shr, cast_signed, cast_unsigned}
-use Rattle.std.specs.Int.Signed.{mag}
-use Rattle.std.specs.Ordering.{int_eq}
+use Rattle.std.proofs.Common.{◌≡◌, ℕ, zero, suc, ◌^◌, Bool, true, false, ◌&&◌, List, [], ◌∷◌, Some, None, ℤ, pos, negsuc, refl, sym, ◌∙◌, subst, arith, slice_get, unwrap_or, if◌then◌else◌, All, int_rem, lit<}
+use Rattle.std.specs.Int.{w32, int_shr}
 use Rattle.std.proofs.lemmas.Int.{SFits-int_wrap, rem_is}
 use borrow.Author.Gap.{read_sfits}
 use lib.Signed.{mag_shr}
-use Rattle.prv_model.specs.Words.{IsWord, is_word, is_zero, flag, amount, binary}
-use Rattle.prv_model.specs.Terms.{term_value, node_term_value, node_is_term, IsTerm, total, bin_op}
+use Rattle.prv_model.specs.Words.{IsWord, is_word, is_zero, flag, amount}
+use Rattle.prv_model.specs.Terms.{term_value, node_term_value, node_is_term, IsTerm, total}
 use Rattle.prv_model.specs.declared.op.TermOp.{TermOp}
 use Rattle.prv_model.specs.declared.op.TermOp.TheVariants.{Add, Sub, Mul, Div, Rem, Shl, Shr, And, Or, Xor, Lt, Le, Eq, Ne}
 use Rattle.prv_model.specs.declared.term.Term.{Term, roll-Term, map-Term}
 use Rattle.prv_model.specs.declared.term.Term.TheOpen.{Term-F}
-use Rattle.prv_model.specs.declared.term.Term.TheFolds.{fold-Term, fold-roll-Term, ind-Term}
+use Rattle.prv_model.specs.declared.term.Term.TheFolds.{fold-roll-Term, ind-Term}
 
 -- the test of words says that a number is one
 pub word-tested : (n : ℤ) → IsWord n → is_word n ≡ true

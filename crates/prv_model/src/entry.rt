@@ -1,6 +1,9 @@
+ghost use Rattle.std.specs.Prelude.{◌≡◌, IfOk};
+
 use crate::input::Input;
 use crate::term::Term;
 use sqlite_items::Items;
+use std::alloc::{AllocError, Global};
 
 /// Why nothing was decided about a region.
 #[derive(Clone, Copy, Debug, PartialEq, Eq)]
@@ -32,6 +35,24 @@ pub enum Kind {
     Unexplored,
     /// Nothing, for this reason.
     Undecided { reason: Reason },
+}
+
+impl Kind {
+    /// The same kind once more.
+    pub fn copy(&self, alloc: Global) -> Result<Kind, AllocError>
+        ensures { IfOk result (λ kind. kind ≡ self.now) }
+    {
+        Ok(match self {
+            Kind::Same => Kind::Same,
+            Kind::Different { sample } => Kind::Different {
+                sample: sample.copy(alloc)?,
+            },
+            Kind::Empty => Kind::Empty,
+            Kind::Beyond => Kind::Beyond,
+            Kind::Unexplored => Kind::Unexplored,
+            Kind::Undecided { reason } => Kind::Undecided { reason: *reason },
+        })
+    }
 }
 
 /// A region with what is claimed of it: the inputs on which each of the terms is nonzero.

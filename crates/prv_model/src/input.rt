@@ -1,4 +1,4 @@
-ghost use Rattle.std.specs.Prelude.{◌≡◌, [], ◌∷◌, ◌++◌, All, IfOk, OnOk, OnErr};
+ghost use Rattle.std.specs.Prelude.{◌≡◌, ◌↔◌, IsTrue, [], ◌∷◌, ◌++◌, All, IfOk, OnOk, OnErr};
 ghost use Rattle.prv_model.specs.Words.{IsWord};
 
 use std::alloc::{AllocError, Global};
@@ -55,5 +55,12 @@ impl Input {
         Ok(Input {
             words: Vec::from_slice(alloc, self.words.as_slice())?,
         })
+    }
+
+    /// Whether both are one input.
+    pub fn same(&self, other: &Input) -> bool
+        ensures { IsTrue result ↔ (self.now ≡ other.now) }
+    {
+        self.words.as_slice() == other.words.as_slice()
     }
 }

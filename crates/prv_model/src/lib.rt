@@ -5,6 +5,7 @@
 #![tactic(auto)]
 
 mod arithmetic;
+mod boards;
 mod entry;
 mod expr;
 mod input;
@@ -20,8 +21,10 @@ mod term;
 #[cfg(test)]
 mod tests;
 mod verdict;
+mod wellformed;
 
 pub use arithmetic::apply;
+pub use boards::places;
 pub use entry::{Entry, Kind, Reason};
 pub use expr::Expr;
 pub use input::Input;

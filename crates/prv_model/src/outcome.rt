@@ -1,3 +1,6 @@
+ghost use Rattle.std.specs.Prelude.{◌≡◌, ◌↔◌, IsTrue};
+
+use crate::verdict::same_outcome;
 use sqlite_items::Items;
 
 /// How a run ends.
@@ -20,4 +23,14 @@ pub enum Ending {
 pub struct Outcome {
     pub outs: Items<i32>,
     pub how: Ending,
+}
+
+impl Outcome {
+    /// Whether both are one outcome: the same words in the same order, and the same ending. Two long runs
+    /// may be one.
+    pub fn same(&self, other: &Outcome) -> bool
+        ensures { IsTrue result ↔ (self.now ≡ other.now) }
+    {
+        same_outcome(self, other)
+    }
 }

@@ -1,10 +1,11 @@
-ghost use Rattle.std.specs.Prelude.{◌≡◌, ◌↔◌, IsTrue};
+ghost use Rattle.std.specs.Prelude.{◌≡◌, ◌↔◌, IsTrue, IsSome, IfSome};
 ghost use Rattle.std.proofs.Props.{props};
 ghost use Rattle.prv_model.specs.Programs.{IsProgram, IsPair};
 
 use crate::name::Name;
 use crate::same::same_program;
 use crate::stmt::Stmt;
+use crate::wellformed::is_program;
 use sqlite_items::Items;
 
 /// A program: its variables, by their declarations with the parameters first, and the body of `main`.
@@ -17,6 +18,25 @@ pub struct Program {
     pub names: Items<Name>,
     pub body: Items<Stmt>,
     pub ghost kept: { IsProgram params names body } by { Prim.hlevel props },
+}
+
+impl Program {
+    /// The program of these parameters, names and statements; none exactly where they make none: where a
+    /// limit is passed, no parameter is there, or a variable is none of the names.
+    pub fn new(params: u8, names: Items<Name>, body: Items<Stmt>) -> Option<Program>
+        ensures some { IsSome result ↔ IsProgram params names body }
+        ensures program { IfSome result (λ p. (p.params ≡ params) × (p.names ≡ names) × (p.body ≡ body)) }
+    {
+        if is_program(params, names.as_slice(), body.as_slice()) {
+            Some(Program {
+                params,
+                names,
+                body,
+            })
+        } else {
+            None
+        }
+    }
 }
 
 /// Two versions of one program, and the bound on the turns of each run.

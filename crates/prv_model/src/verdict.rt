@@ -36,7 +36,8 @@ fn is_long(how: Ending) -> bool
     }
 }
 
-fn same_outcome(before: &Outcome, after: &Outcome) -> bool
+/// Whether two outcomes are one, as wholes.
+pub fn same_outcome(before: &Outcome, after: &Outcome) -> bool
     ensures { result ≡ outcome_eq before.now after.now }
 {
     before.how == after.how && before.outs.as_slice() == after.outs.as_slice()
