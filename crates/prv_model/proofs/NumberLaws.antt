@@ -66,3 +66,30 @@ counts-step (Stmt-F.Marked mark body) =
 
 pub counts : (s : Stmt) → length (statements s) ≡ stmt_count s
 counts s = ind-Stmt Counts (λ z y is. subst (λ (w : Stmt-F Stmt). Counts (roll-Stmt w)) is (counts-step y)) s
+
+-- nothing is inside a statement of another variant
+abbrev HasNone : Stmt → Type 0
+HasNone s =
+    ((test : Expr) (chosen : Stmt) (other : Option Stmt) → s ≡ If test chosen other → ⊥) →
+    ((test : Expr) (body : Stmt) → s ≡ While test body → ⊥) →
+    ((all : List Stmt) → s ≡ Block all → ⊥) →
+    ((mark : ℕ) (body : Stmt) → s ≡ Marked mark body → ⊥) → inside s ≡ []
+
+none-step : (y : Stmt-F ((s : Stmt) × HasNone s)) → HasNone (roll-Stmt (map-Stmt ((s : Stmt) × HasNone s) Stmt (λ e. e.0) y))
+none-step Stmt-F.Skip = λ a b c d. para-roll-Stmt (List Stmt) node_inside Stmt-F.Skip
+none-step (Stmt-F.Set var e) = λ a b c d. para-roll-Stmt (List Stmt) node_inside (Stmt-F.Set var e)
+none-step (Stmt-F.If test chosen None) = λ a b c d. absurd (a test chosen.0 None (rolls-If test chosen.0 None))
+none-step (Stmt-F.If test chosen (Some o)) = λ a b c d. absurd (a test chosen.0 (Some o.0) (rolls-If test chosen.0 (Some o.0)))
+none-step (Stmt-F.While test body) = λ a b c d. absurd (b _ _ (rolls-While test body.0))
+none-step (Stmt-F.Return e) = λ a b c d. para-roll-Stmt (List Stmt) node_inside (Stmt-F.Return e)
+none-step (Stmt-F.Out e) = λ a b c d. para-roll-Stmt (List Stmt) node_inside (Stmt-F.Out e)
+none-step (Stmt-F.Assert e) = λ a b c d. para-roll-Stmt (List Stmt) node_inside (Stmt-F.Assert e)
+none-step (Stmt-F.Block all) = λ a b c d. absurd (c _ (rolls-Block (map (λ e. e.0) all)))
+none-step (Stmt-F.Marked mark body) = λ a b c d. absurd (d _ _ (rolls-Marked mark body.0))
+
+pub inside-none : (s : Stmt) →
+    ((test : Expr) (chosen : Stmt) (other : Option Stmt) → s ≡ If test chosen other → ⊥) →
+    ((test : Expr) (body : Stmt) → s ≡ While test body → ⊥) →
+    ((all : List Stmt) → s ≡ Block all → ⊥) →
+    ((mark : ℕ) (body : Stmt) → s ≡ Marked mark body → ⊥) → inside s ≡ []
+inside-none s = ind-Stmt HasNone (λ z y is. subst (λ (w : Stmt-F Stmt). HasNone (roll-Stmt w)) is (none-step y)) s

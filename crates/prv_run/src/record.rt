@@ -18,7 +18,7 @@ pub enum Recorder {
     Off,
     On {
         /// How many statements each statement is, by its number.
-        sizes: Items<u32>,
+        sizes: Items<usize>,
         events: Items<Event>,
     },
 }
@@ -64,7 +64,7 @@ impl Recorder {
             Recorder::Off => 0,
             Recorder::On { sizes, events: _ } => {
                 let size = at(sizes.as_slice(), number as usize).copied().unwrap_or(0);
-                number.saturating_add(size)
+                number.saturating_add(u32::try_from(size).unwrap_or(u32::MAX))
             }
         }
     }

@@ -1,36 +1,85 @@
-use Rattle.std.proofs.Common.{rules, ◌≡◌, ◌≤◌, length, arith, sym, ◌∙◌, Some, None, subst, FitsSigned}
-use Rattle.std.specs.Int.{w32}
-use denote.Param.Weighed.{most, at_most}
-use Rattle.prv_model.specs.Programs.{stmt_over}
-use Rattle.prv_model.specs.Expressions.{value}
-use Rattle.prv_model.specs.Statements.{exec, goes, spend}
-use Rattle.prv_model.specs.declared.stmt.Stmt.{Stmt}
-use Rattle.prv_model.proofs.stmt.Stmt.TheLaws.{the_size}
-use Rattle.prv_model.proofs.WordLemmas.{is_zero-bits}
-use Rattle.prv_run.specs.Frames.{frame_of}
-use Rattle.prv_run.proofs.Steps.{all_true-at, loop-turn, none-is}
 use Rattle.prv_run.proofs.execute.+execute.Goals as goal
 
-pub execute_all-execute-requires : goal.execute_all-execute-requires
-execute_all-execute-requires t c =
-    let l = c.loop-stmt in
-    let all = c.args.all.now in
-    let stmt = c.stmt-item.result in
-    let smaller : the_size stmt ≤ most (λ y. the_size y) all =
-    subst (λ (y : Stmt). the_size y ≤ most (λ z. the_size z) all) (sym c.stmt-item.is) (at_most (λ z. the_size z) all l.stmt-index stmt (omega arith)) in
-    (search rules, rw l.invariant.variables (all_true-at (λ s. stmt_over (length c.args.frame.now.state) s) all l.stmt-index stmt c.requires c.loop-stmt-test.true c.stmt-item.is))
+pub decide-execute-requires : goal.decide-execute-requires
+decide-execute-requires t c = ?
 
-pub repeat-loop-n-preserved : goal.repeat-loop-n-preserved
-repeat-loop-n-preserved t c =
-    let l = c.loop-n in
-    let found : value c.args.test.now l.frame.state ≡ Some c.in-Some.n = rw (← c.as_slice.ensures) (sym c.in-Some.ensures) in
-    let fits : FitsSigned w32 c.in-Some.n = search rules in
-    let nonzero = is_zero-bits c.in-Some.n fits.sfits c.if-n-eq0.false in
-    let going : c.in_ok-ending.ending ≡ None = none-is _ (sym c.if-is_some.ensures) in
-    let done : exec c.args.body.now (spend (frame_of l.frame)) ≡ goes (frame_of c.execute.new.frame) = rw (← going) c.in_ok-ending.ensures.done in
-    record {
-      same = loop-turn c.args.test.now (λ f. exec c.args.body.now f) (frame_of l.frame) (frame_of c.execute.new.frame) c.in-Some.n l.invariant.same.0 _
-          found nonzero c.if-frame-eq0.false l.invariant.same.1 done c.in_ok-ending.ensures.spent l.invariant.same.2;
-      spent = omega arith;
-      variables = c.execute.ensures.variables ∙ l.invariant.variables;
-    }
+pub decide-execute-requires-in-Some-no : goal.decide-execute-requires-in-Some-no
+decide-execute-requires-in-Some-no t c = ?
+
+pub decide-returns-in-None-clause-told : goal.decide-returns-in-None-clause-told
+decide-returns-in-None-clause-told t c = ?
+
+pub decide-returns-then-n-ne0-clause-told : goal.decide-returns-then-n-ne0-clause-told
+decide-returns-then-n-ne0-clause-told t c = ?
+
+pub decide-returns-in-None-no-clause-told : goal.decide-returns-in-None-no-clause-told
+decide-returns-in-None-no-clause-told t c = ?
+
+pub decide-returns-in-Some-no-clause-told : goal.decide-returns-in-Some-no-clause-told
+decide-returns-in-Some-no-clause-told t c = ?
+
+pub execute-decide-requires : goal.execute-decide-requires
+execute-decide-requires t c = ?
+
+pub execute-execute_all-requires : goal.execute-execute_all-requires
+execute-execute_all-requires t c = ?
+
+pub execute-execute-requires : goal.execute-execute-requires
+execute-execute-requires t c = ?
+
+pub execute-returns-in-Skip-clause-told : goal.execute-returns-in-Skip-clause-told
+execute-returns-in-Skip-clause-told t c = ?
+
+pub execute-returns-in-Set-clause-told : goal.execute-returns-in-Set-clause-told
+execute-returns-in-Set-clause-told t c = ?
+
+pub execute-returns-in_ok-ending-in-Return-clause-told : goal.execute-returns-in_ok-ending-in-Return-clause-told
+execute-returns-in_ok-ending-in-Return-clause-told t c = ?
+
+pub execute-returns-in-Out-clause-told : goal.execute-returns-in-Out-clause-told
+execute-returns-in-Out-clause-told t c = ?
+
+pub execute-returns-in-Assert-clause-told : goal.execute-returns-in-Assert-clause-told
+execute-returns-in-Assert-clause-told t c = ?
+
+pub execute-returns-in-Block-clause-told : goal.execute-returns-in-Block-clause-told
+execute-returns-in-Block-clause-told t c = ?
+
+pub execute-returns-in-Marked-clause-told : goal.execute-returns-in-Marked-clause-told
+execute-returns-in-Marked-clause-told t c = ?
+
+pub execute_all-execute-requires : goal.execute_all-execute-requires
+execute_all-execute-requires t c = ?
+
+pub execute_all-loop-stmt-preserved : goal.execute_all-loop-stmt-preserved
+execute_all-loop-stmt-preserved t c = ?
+
+pub execute_all-returns-then-is_some-clause-told : goal.execute_all-returns-then-is_some-clause-told
+execute_all-returns-then-is_some-clause-told t c = ?
+
+pub execute_all-returns-clause-told : goal.execute_all-returns-clause-told
+execute_all-returns-clause-told t c = ?
+
+pub repeat-loop-found-init : goal.repeat-loop-found-init
+repeat-loop-found-init t c = ?
+
+pub repeat-loop-found-preserved : goal.repeat-loop-found-preserved
+repeat-loop-found-preserved t c = ?
+
+pub repeat-returns-in-None-clause-told : goal.repeat-returns-in-None-clause-told
+repeat-returns-in-None-clause-told t c = ?
+
+pub repeat-returns-then-n-eq0-clause-told : goal.repeat-returns-then-n-eq0-clause-told
+repeat-returns-then-n-eq0-clause-told t c = ?
+
+pub repeat-returns-then-frame-eq0-clause-told : goal.repeat-returns-then-frame-eq0-clause-told
+repeat-returns-then-frame-eq0-clause-told t c = ?
+
+pub repeat-execute-requires : goal.repeat-execute-requires
+repeat-execute-requires t c = ?
+
+pub repeat-returns-then-is_some-clause-done : goal.repeat-returns-then-is_some-clause-done
+repeat-returns-then-is_some-clause-done t c = ?
+
+pub repeat-returns-then-is_some-clause-told : goal.repeat-returns-then-is_some-clause-told
+repeat-returns-then-is_some-clause-told t c = ?
