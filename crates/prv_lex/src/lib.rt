@@ -19,6 +19,3 @@ pub use error::{LexError, LexWhy};
 pub use laws::{one_list_of_tokens, one_refusal, places_rise, tokens_or_refusal, tokens_stand};
 pub use scan::tokens;
 pub use token::{Key, Sym, Tok, Token};
-
-#[cfg(test)]
-mod tests;

@@ -19,6 +19,3 @@ pub use command::{Command, Plan};
 pub use error::LineError;
 pub use laws::{one_command, one_usage};
 pub use reader::read_words;
-
-#[cfg(test)]
-mod tests;

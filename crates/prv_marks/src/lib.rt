@@ -7,8 +7,6 @@ mod difference;
 mod error;
 mod marks;
 mod pairing;
-#[cfg(test)]
-mod tests;
 
 pub use error::{PairError, Side};
 pub use pairing::pair;

@@ -18,6 +18,3 @@ mod version;
 pub use checker::check;
 pub use error::{NameError, What};
 pub use version::{MarkAt, Version};
-
-#[cfg(test)]
-mod tests;

@@ -1,5 +1,6 @@
 ghost use Rattle.std.specs.Prelude.{◌≡◌, ◌≤◌, ◌<◌, true, length, map, sum, IfOk};
 ghost use Rattle.std.specs.Option.{option_map};
+ghost use Rattle.prv_model.specs.Words.{is_word};
 ghost use Rattle.prv_model.specs.Programs.{expr_over, stmt_over, passed, all_true, counted, stmt_count};
 ghost use Rattle.prv_parse.specs.Trees.{stmt_count as tree_count, counted as tree_counted};
 ghost use Rattle.prv_names.specs.Versions.{variable as variable_of, numbered_expr, numbered};
@@ -23,6 +24,14 @@ fn variable(names: &Names, name: &Name) -> u8
     }
 }
 
+/// A numeral, which is a word as each number of this type is.
+fn numeral(n: i32) -> Expr
+    ensures value { result ≡ Expr.Num n }
+    ensures word { is_word n ≡ true }
+{
+    Expr::Num(n)
+}
+
 /// An expression over the numbers of its names.
 fn number_expr(alloc: Global, expr: &ExprTree, names: &Names) -> Result<Expr, AllocError>
     requires some { 1 ≤ length names.now }
@@ -31,7 +40,7 @@ fn number_expr(alloc: Global, expr: &ExprTree, names: &Names) -> Result<Expr, Al
     ensures below { IfOk result (λ e. expr_over (length names.now) e ≡ true) }
 {
     match expr {
-        ExprTree::Num(n) => Ok(Expr::Num(*n)),
+        ExprTree::Num(n) => Ok(numeral(*n)),
         ExprTree::Name(x) => Ok(Expr::Var(variable(names, &x.name))),
         ExprTree::Un(op, a) => {
             let a = number_expr(alloc, a.get(), names)?;

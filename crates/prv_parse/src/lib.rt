@@ -28,6 +28,3 @@ pub use parser::parse;
 pub use program::Tree;
 pub use skeleton::{Skel, SkelItem};
 pub use tree::{ExprTree, Ident, Mark, StmtTree};
-
-#[cfg(test)]
-mod tests;

@@ -7,7 +7,7 @@ use Rattle.std.proofs.lemmas.List.{append-nil, length-append}
 use Rattle.prv_model.specs.Words.{is_zero}
 use Rattle.prv_model.specs.Terms.{term_value, holds}
 use Rattle.prv_model.specs.Comparison.{verdict}
-use Rattle.prv_model.specs.Boards.{IsInput, one_if, places, Claims, ShowsMember, IsLegal, FirstHoldsOnly}
+use Rattle.prv_model.specs.Boards.{IsInput, one_if, places, Claims, ShowsMember, IsTrueOf, IsLegal, FirstHoldsOnly}
 use Rattle.prv_model.specs.declared.op.TermOp.TheVariants.{Eq, Ne}
 use Rattle.prv_model.specs.declared.term.Term.{Term}
 use Rattle.prv_model.specs.declared.term.Term.TheVariants.{Param, Num}
@@ -112,37 +112,36 @@ point-itself x = itself [] x 0 refl
 pub point-once : (w : Verdict) (x y : List ℤ) → places (map (λ e. e.terms) (point w x)) y ≡ 1
 point-once w x y = places-point [] 2 0 x y
 
--- what the verdict on an input is, its kind claims of the input
-kind-claims : (pair : Pair) (w : Verdict) (x : List ℤ) → verdict pair x ≡ w → Claims pair (kind_at w x) x
-kind-claims pair v.Beyond x is = is
-kind-claims pair v.Same x is = is
-kind-claims pair v.Differ x is = is
-
--- the rests claim nothing, and show no sample
-rests-claims : (pair : Pair) (number : ℕ) (front : List Term) (k : ℕ) (x y : List ℤ) →
-    AllByRecursion (λ e. holds e.terms y ≡ true → Claims pair e.kind y) (rests number front k x)
-rests-claims pair number front k [] y = tt
-rests-claims pair number front k (n ∷ x) y = (λ _. tt, rests-claims pair (suc number) (front ++ equals k n ∷ []) (suc k) x y)
-
-rests-samples : (count number : ℕ) (front : List Term) (k : ℕ) (x : List ℤ) → AllByRecursion (λ e. ShowsMember count e.kind e.terms) (rests number front k x)
-rests-samples count number front k [] = tt
-rests-samples count number front k (n ∷ x) = (tt, rests-samples count (suc number) (front ++ equals k n ∷ []) (suc k) x)
+-- what a verdict on an input lets be claimed is true of it
+kind-claims : (w : Verdict) (x : List ℤ) → Claims (kind_at w x) w
+kind-claims v.Beyond x = refl
+kind-claims v.Same x = refl
+kind-claims v.Differ x = refl
 
 kind-sample : (count : ℕ) (w : Verdict) (x : List ℤ) → IsInput count x → ShowsMember count (kind_at w x) (literals 0 x)
 kind-sample count v.Beyond x here = tt
 kind-sample count v.Same x here = tt
 kind-sample count v.Differ x here = (here, point-itself x)
 
+-- the rests claim nothing, and show no sample
+rests-true : (pair : Pair) (number : ℕ) (front : List Term) (k : ℕ) (x : List ℤ) →
+    AllByRecursion (λ e. IsTrueOf pair e.kind e.terms) (rests number front k x)
+rests-true pair number front k [] = tt
+rests-true pair number front k (n ∷ x) =
+    (record { claims = λ y there inside. tt; sample = tt }, rests-true pair (suc number) (front ++ equals k n ∷ []) (suc k) x)
+
 pub point-legal : (pair : Pair) (x : List ℤ) → IsInput pair.before.params x → IsLegal pair (point (verdict pair x) x)
 point-legal pair x here = record {
   once = λ y there. point-once (verdict pair x) x y;
-  true_claims = λ y there. (
-    λ inside. subst (λ (z : List ℤ). Claims pair (kind_at (verdict pair x) x) z) (sym (point-only x y (there.long ∙ sym here.long) inside)) (kind-claims pair (verdict pair x) x refl),
-    rests-claims pair 2 [] 0 x y,
+  true_kinds = (
+    record {
+      claims = λ y there inside. subst (λ (z : List ℤ). Claims (kind_at (verdict pair x) x) (verdict pair z)) (sym (point-only x y (there.long ∙ sym here.long) inside)) (kind-claims (verdict pair x) x);
+      sample = kind-sample pair.before.params (verdict pair x) x here;
+    },
+    rests-true pair 2 [] 0 x,
   );
-  samples = (kind-sample pair.before.params (verdict pair x) x here, rests-samples pair.before.params 2 [] 0 x);
 }
 
-pub point-first : (count : ℕ) (w : Verdict) (x : List ℤ) → length x ≡ count → FirstHoldsOnly count (point w x) x
-point-first count w x long =
-    (refl, λ y there. (point-only x y (there.long ∙ sym long), λ same. subst (λ (z : List ℤ). holds (literals 0 x) z ≡ true) (sym same) (point-itself x)))
+pub point-first : (count : ℕ) (w : Verdict) (x : List ℤ) → IsInput count x → FirstHoldsOnly count (point w x) x
+point-first count w x here =
+    (refl, here, λ y there. (point-only x y (there.long ∙ sym here.long), λ same. subst (λ (z : List ℤ). holds (literals 0 x) z ≡ true) (sym same) (point-itself x)))

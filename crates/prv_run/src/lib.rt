@@ -1,4 +1,4 @@
-//! Concrete runs: what a program does on an input, and what a pair does at a point.
+//! Concrete runs: what a program does on an input, what is evaluated on the way, and what a pair does at a point.
 #![tactic(auto)]
 
 mod evaluate;
@@ -8,8 +8,6 @@ mod points;
 mod record;
 mod runs;
 mod sizes;
-#[cfg(test)]
-mod tests;
 
 pub use event::{Event, Traced, What};
 pub use points::point_entries;

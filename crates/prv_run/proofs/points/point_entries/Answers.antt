@@ -18,4 +18,5 @@ pub returns-clause-first : goal.returns-clause-first
 returns-clause-first c =
     let pair = c.args.pair.now in
     let x = c.args.input.now in
-    subst (λ (all : List Entry). FirstHoldsOnly pair.before.params all x) (sym c.in_ok-entries.ensures) (point-first pair.before.params c.compare.result x c.requires)
+    let here : IsInput pair.before.params x = record { long = c.requires; words = c.as_slice-words.ensures.words } in
+    subst (λ (all : List Entry). FirstHoldsOnly pair.before.params all x) (sym c.in_ok-entries.ensures) (point-first pair.before.params c.compare.result x here)

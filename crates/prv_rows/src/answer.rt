@@ -1,0 +1,140 @@
+use crate::expansion::expanded;
+use crate::refusal::Refusal;
+use crate::stages::{pair_of, run_of, tree_of, version_of};
+use crate::tokens::{show_bytes, show_skeleton, show_tokens};
+use crate::trees::{show_all, show_ident};
+use prv_lex::tokens;
+use prv_line::read_words;
+use std::alloc::{AllocError, Global};
+
+/// What stands around an expression.
+const VALUE: (&str, &str) = ("int main(int a) { return ", "; }");
+/// What stands around statements.
+const BODY: (&str, &str) = ("int main(int a) {", "}");
+
+/// What a row gives: its first word says what is asked of the text behind it.
+pub fn answer(alloc: Global, row: &str) -> Result<String, Refusal> {
+    let (kind, text) = row.split_once(' ').unwrap_or((row, ""));
+    match kind {
+        "tokens" => tokens_answer(alloc, text),
+        "program" => program_answer(alloc, text),
+        "body" => body_answer(alloc, BODY, text),
+        "value" => body_answer(alloc, VALUE, text),
+        "is-body" => tree_answer(alloc, BODY, text),
+        "is-value" => tree_answer(alloc, VALUE, text),
+        "skeleton" => skeleton_answer(alloc, text),
+        "names" => names_answer(alloc, text),
+        "is-program" => version_answer(alloc, text),
+        "pair" => pair_answer(alloc, text),
+        "run" => run_answer(alloc, text),
+        "words" => words_answer(alloc, text),
+        _ => Err(Refusal::Row),
+    }
+}
+
+fn tokens_answer(alloc: Global, text: &str) -> Result<String, Refusal> {
+    let text = expanded(alloc, text)?;
+    let list = tokens(alloc, text.as_slice())?;
+    let mut line = String::new(alloc);
+    show_tokens(&mut line, list.as_slice())?;
+    Ok(line)
+}
+
+fn program_answer(alloc: Global, text: &str) -> Result<String, Refusal> {
+    let text = expanded(alloc, text)?;
+    let tree = tree_of(alloc, text.as_slice())?;
+    let mut line = String::new(alloc);
+    for param in tree.params.as_slice() {
+        show_ident(&mut line, param)?;
+        line.push(' ')?;
+    }
+    show_all(&mut line, tree.body.as_slice())?;
+    Ok(line)
+}
+
+/// A text, with what stands around it.
+fn around(alloc: Global, frame: (&str, &str), text: &str) -> Result<Vec<u8>, AllocError> {
+    let mut all = frame.0.as_bytes().to_vec(alloc)?;
+    let inner = expanded(alloc, text)?;
+    all.extend_from_slice(inner.as_slice())?;
+    all.extend_from_slice(frame.1.as_bytes())?;
+    Ok(all)
+}
+
+fn body_answer(alloc: Global, frame: (&str, &str), text: &str) -> Result<String, Refusal> {
+    let text = around(alloc, frame, text)?;
+    let tree = tree_of(alloc, text.as_slice())?;
+    let mut line = String::new(alloc);
+    show_all(&mut line, tree.body.as_slice())?;
+    Ok(line)
+}
+
+fn tree_answer(alloc: Global, frame: (&str, &str), text: &str) -> Result<String, Refusal> {
+    let text = around(alloc, frame, text)?;
+    let _tree = tree_of(alloc, text.as_slice())?;
+    Ok("yes".to_string(alloc)?)
+}
+
+fn skeleton_answer(alloc: Global, text: &str) -> Result<String, Refusal> {
+    let text = expanded(alloc, text)?;
+    let tree = tree_of(alloc, text.as_slice())?;
+    let mut line = String::new(alloc);
+    show_skeleton(&mut line, tree.skeleton.as_slice())?;
+    Ok(line)
+}
+
+/// The names of a program's variables, and its marks.
+fn names_answer(alloc: Global, text: &str) -> Result<String, Refusal> {
+    let text = expanded(alloc, text)?;
+    let version = version_of(alloc, text.as_slice())?;
+    let program = &version.program;
+    let params = program.params;
+    let mut line = format!(in alloc; "{params} of")?;
+    for name in program.names.as_slice() {
+        line.push(' ')?;
+        show_bytes(&mut line, name.as_bytes())?;
+    }
+    for mark in version.marks.as_slice() {
+        let (number, place, inside) = (mark.mark, mark.place, mark.inside);
+        write!(line, "; {number}@{place} inside {inside}")?;
+    }
+    Ok(line)
+}
+
+fn version_answer(alloc: Global, text: &str) -> Result<String, Refusal> {
+    let text = expanded(alloc, text)?;
+    let _version = version_of(alloc, text.as_slice())?;
+    Ok("yes".to_string(alloc)?)
+}
+
+/// Two texts with ` <> ` between them.
+fn pair_answer(alloc: Global, texts: &str) -> Result<String, Refusal> {
+    let (before, after) = texts.split_once(" <> ").ok_or(Refusal::Row)?;
+    let before = expanded(alloc, before)?;
+    let after = expanded(alloc, after)?;
+    let pair = pair_of(alloc, before.as_slice(), after.as_slice())?;
+    let (old, new, turns) = (pair.before.params, pair.after.params, pair.turns);
+    Ok(format!(in alloc; "pair {old} {new} {turns}")?)
+}
+
+/// The bound on turns and the words of the input, with ` : ` between them and the program.
+fn run_answer(alloc: Global, text: &str) -> Result<String, Refusal> {
+    let (numbers, text) = text.split_once(" : ").ok_or(Refusal::Row)?;
+    let text = expanded(alloc, text)?;
+    let outcome = run_of(alloc, numbers, text.as_slice())?;
+    let how = outcome.how;
+    let mut line = format!(in alloc; "{how:?}")?;
+    for word in outcome.outs.as_slice() {
+        write!(line, " {word}")?;
+    }
+    Ok(line)
+}
+
+/// Words of a command line, each with `|` behind it.
+fn words_answer(alloc: Global, text: &str) -> Result<String, Refusal> {
+    let mut words: Vec<&str> = text.split('|').collect(alloc)?;
+    words.pop();
+    let command = read_words(alloc, words.as_slice())?;
+    let waits = command.waits();
+    Ok(format!(in alloc; "{command:?} waits {waits}")?)
+}

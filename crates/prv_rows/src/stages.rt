@@ -1,0 +1,44 @@
+//! From the bytes of a text to its tokens, its tree, its version and its runs.
+use crate::refusal::Refusal;
+use prv_lex::tokens;
+use prv_marks::pair;
+use prv_model::{Input, Outcome, Pair};
+use prv_names::{Version, check};
+use prv_parse::{Tree, parse};
+use std::alloc::Global;
+
+pub fn tree_of(alloc: Global, text: &[u8]) -> Result<Tree, Refusal> {
+    let list = tokens(alloc, text)?;
+    if list.len() > 65_536 {
+        return Err(Refusal::Row);
+    }
+    let end = text.len().min(65_536) as u32;
+    Ok(parse(alloc, list.as_slice(), end)?)
+}
+
+pub fn version_of(alloc: Global, text: &[u8]) -> Result<Version, Refusal> {
+    let tree = tree_of(alloc, text)?;
+    Ok(check(alloc, tree)?)
+}
+
+pub fn pair_of(alloc: Global, before: &[u8], after: &[u8]) -> Result<Pair, Refusal> {
+    let before = version_of(alloc, before)?;
+    let after = version_of(alloc, after)?;
+    Ok(pair(before, after, 32)?)
+}
+
+/// What a program shows on an input of these numbers, after the bound on its turns.
+pub fn run_of(alloc: Global, numbers: &str, text: &[u8]) -> Result<Outcome, Refusal> {
+    let (turns, words) = numbers.split_once(' ').ok_or(Refusal::Row)?;
+    let turns: u32 = turns.parse()?;
+    let mut input = Input::new(alloc);
+    for word in words.split(' ') {
+        let word: i32 = word.parse()?;
+        input.push(word)?;
+    }
+    let program = version_of(alloc, text)?.program;
+    if input.as_slice().len() != program.params as usize {
+        return Err(Refusal::Row);
+    }
+    Ok(prv_run::run(alloc, &program, &input, turns)?)
+}
