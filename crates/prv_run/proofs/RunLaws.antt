@@ -21,7 +21,7 @@ runs-Set var e k f = ap (λ (s : Stmt). runs s k f) (sym (v.rolls-Set var e)) �
 pub runs-If : (test : Expr) (chosen : Stmt) (other : Option Stmt) (k : ℕ) (f : Frame) →
     runs (If test chosen other) k f
     ≡ Choice k test chosen other (Then (evaluation k Tests test f)
-        (branch (value test f.state) (runs chosen (k + 1) f) (otherwise_run (option_map (λ s. (s, runs s)) other) (k + 1 + stmt_count chosen) f)))
+    (branch (value test f.state) (runs chosen (k + 1) f) (otherwise_run (option_map (λ s. (s, runs s)) other) (k + 1 + stmt_count chosen) f)))
 runs-If test chosen None k f =
     ap (λ (s : Stmt). runs s k f) (sym (rolls-If test chosen None)) ∙ ap (λ (r : ℕ → Frame → Run). r k f) (para-roll-Stmt (ℕ → Frame → Run) node_runs (Stmt-F.If test chosen None))
 runs-If test chosen (Some other) k f =

@@ -29,9 +29,9 @@ pub added-else : (stmt chosen last : Stmt) (other : Option Stmt) (test : Expr) (
     mid ≡ old ++ map (λ s. stmt_count s) (statements chosen) → new ≡ mid ++ map (λ s. stmt_count s) (statements last) → new ≡ old ++ map (λ s. stmt_count s) (inside stmt)
 added-else stmt chosen last other test old mid new is some front back =
     added old new (statements chosen ++ statements last) _
-      (back ∙ ap (λ (xs : List ℕ). xs ++ map (λ s. stmt_count s) (statements last)) front ∙ append_assoc old _ _
-       ∙ ap (λ (xs : List ℕ). old ++ xs) (sym (map-append (λ s. stmt_count s) (statements chosen) (statements last))))
-      (sym (inside-If test chosen (Some last)) ∙ ap (λ (o : Option Stmt). inside (If test chosen o)) (sym some) ∙ ap (λ (s : Stmt). inside s) (sym is))
+    (back ∙ ap (λ (xs : List ℕ). xs ++ map (λ s. stmt_count s) (statements last)) front ∙ append_assoc old _ _
+    ∙ ap (λ (xs : List ℕ). old ++ xs) (sym (map-append (λ s. stmt_count s) (statements chosen) (statements last))))
+    (sym (inside-If test chosen (Some last)) ∙ ap (λ (o : Option Stmt). inside (If test chosen o)) (sym some) ∙ ap (λ (s : Stmt). inside s) (sym is))
 
 -- nothing is inside any other statement
 pub added-none : (stmt : Stmt) (old : List ℕ) → inside stmt ≡ [] → old ≡ old ++ map (λ s. stmt_count s) (inside stmt)

@@ -1,7 +1,9 @@
 -- What a recorder is told of in parts, and which numbers follow for it.
-use Rattle.std.proofs.Common.{◌≡◌, ℕ, suc, zero, ◌+◌, ◌≤◌, List, [], ◌∷◌, ◌++◌, length, drop, map, Option, Some, None, refl, sym, ap, ◌∙◌, subst, append_assoc, slice_get, ◌-◌, length-append, length-drop, arith}
+use Rattle.std.proofs.Common.{◌≡◌, ℕ, suc, zero, ◌+◌, ◌<◌, ◌≤◌, List, [], ◌∷◌, ◌++◌, length, drop, map, Option, Some, None, Result, Ok, Err, refl, sym, ap, ◌∙◌, subst, append_assoc, slice_get, ◌-◌, length-append, length-drop, sum, arith}
 use Rattle.std.proofs.lemmas.List.{append-nil, length-map, drop-drop, drop_at}
-use Rattle.prv_model.specs.Numbers.{inside, statements}
+use Rattle.std.proofs.lemmas.List.Sums.{sum_by-cons}
+use Rattle.std.specs.Result.{OkIff, result_unwrap_or}
+use Rattle.prv_model.specs.Numbers.{inside, statements, statements_all}
 use Rattle.prv_model.specs.Programs.{stmt_count}
 use Rattle.prv_model.proofs.NumberLaws.{counts}
 use Rattle.prv_model.specs.declared.limits.TheConstants.{MAX_STMTS}
@@ -32,7 +34,6 @@ pub agrees-told : (r : Recorder) (es : List Event) (j k : ℕ) → Agrees r j k 
 agrees-told Off es j k same = tt
 agrees-told (On sizes told) es j k same = same
 
-
 -- the sizes of the first of two lists, and those behind them
 sizes-split : (a b : List Stmt) (back : List ℕ) → map (λ s. stmt_count s) (a ++ b) ++ back ≡ map (λ s. stmt_count s) a ++ (map (λ s. stmt_count s) b ++ back)
 sizes-split [] b back = refl
@@ -46,9 +47,9 @@ has-behind sizes k j a b h is = record {
   few = h.few;
   behind = h.behind;
   placed =
-    ap (λ (n : ℕ). drop n sizes) is ∙ sym (drop-drop (length a) k sizes)
-    ∙ ap (λ (rest : List ℕ). drop (length a) rest) (h.placed ∙ sizes-split a b h.behind)
-    ∙ drop_at (map (λ s. stmt_count s) a) (map (λ s. stmt_count s) b ++ h.behind) (length a) (length-map a (λ s. stmt_count s));
+      ap (λ (n : ℕ). drop n sizes) is ∙ sym (drop-drop (length a) k sizes)
+      ∙ ap (λ (rest : List ℕ). drop (length a) rest) (h.placed ∙ sizes-split a b h.behind)
+      ∙ drop_at (map (λ s. stmt_count s) a) (map (λ s. stmt_count s) b ++ h.behind) (length a) (length-map a (λ s. stmt_count s));
 }
 
 pub knows-front : (r : Recorder) (k : ℕ) (a b : List Stmt) → Knows r k (a ++ b) → Knows r k a
@@ -83,3 +84,31 @@ size-at sizes k s h =
     let few : length sizes ≤ MAX_STMTS = h.few in
     let some : 1 ≤ length (statements s) = omega arith in
     (at-place k sizes _ (stmt_count s) h.placed, subst (λ (n : ℕ). k + n ≤ MAX_STMTS) (counts s) (omega arith))
+
+-- what is known once more is told
+pub knows-on : (r0 r1 : Recorder) (es : List Event) (k : ℕ) (flat : List Stmt) → r1 ≡ tell r0 es → Knows r0 k flat → Knows r1 k flat
+knows-on r0 r1 es k flat is known = subst (λ (r : Recorder). Knows r k flat) (sym is) (knows-told r0 es k flat known)
+
+pub agrees-on : (r0 r1 : Recorder) (es : List Event) (j k : ℕ) → r1 ≡ tell r0 es → Agrees r0 j k → Agrees r1 j k
+agrees-on r0 r1 es j k is same = subst (λ (r : Recorder). Agrees r j k) (sym is) (agrees-told r0 es j k same)
+
+-- a number that fits is kept
+pub fitting : {E : Type 0} (r : Result ℕ E) (n most d : ℕ) → OkIff r (n < most) n → n < most → result_unwrap_or r d ≡ n
+fitting (Ok x) n most d is fits = is.1
+fitting (Err e) n most d is fits = absurd (is fits)
+
+-- the statements of a list are as many as they count together
+pub counts-all : (all : List Stmt) → length (statements_all all) ≡ sum (map (λ s. stmt_count s) all)
+counts-all [] = refl
+counts-all (s ∷ all) =
+    length-append (statements s) (statements_all all) ∙ ap (λ (n : ℕ). n + length (statements_all all)) (counts s) ∙ ap (λ (n : ℕ). stmt_count s + n) (counts-all all)
+    ∙ sym (sum_by-cons (λ n. n) (stmt_count s) (map (λ t. stmt_count t) all))
+
+-- the sizes of all statements of a list are known from 0 on
+pub knows-all : (sizes : List ℕ) (told : List Event) (all : List Stmt) → sizes ≡ map (λ s. stmt_count s) (statements_all all) → sum (map (λ s. stmt_count s) all) ≤ MAX_STMTS →
+    Knows (On sizes told) 0 (statements_all all)
+knows-all sizes told all is few = record {
+  few = subst (λ (n : ℕ). n ≤ MAX_STMTS) (sym (ap (λ (xs : List ℕ). length xs) is ∙ length-map (statements_all all) (λ s. stmt_count s) ∙ counts-all all)) few;
+  behind = [];
+  placed = is ∙ sym (append-nil (map (λ s. stmt_count s) (statements_all all)));
+}

@@ -43,7 +43,7 @@ told-If : (r0 r1 r2 : Recorder) (test : Expr) (chosen : Stmt) (other : Option St
 told-If r0 r1 r2 test chosen other k f v more found tested rest same =
     rest ∙ ap (λ (r : Recorder). tell r more) tested ∙ tell-more r0 _ more
     ∙ ap (λ (es : List Event). tell r0 (event k w.Test (value test f.state) ∷ es))
-        (sym same ∙ ap (λ (o : Option ℤ). events (branch o (runs chosen (k + 1) f) (otherwise_run (option_map (λ s. (s, runs s)) other) (k + 1 + stmt_count chosen) f))) (sym found))
+    (sym same ∙ ap (λ (o : Option ℤ). events (branch o (runs chosen (k + 1) f) (otherwise_run (option_map (λ s. (s, runs s)) other) (k + 1 + stmt_count chosen) f))) (sym found))
     ∙ ap (λ (run : Run). tell r0 (events run)) (sym (runs-If test chosen other k f))
 
 pub told-fault : (r0 r1 : Recorder) (test : Expr) (chosen : Stmt) (other : Option Stmt) (k : ℕ) (f : Frame) → value test f.state ≡ None →
@@ -55,7 +55,7 @@ pub told-then : (r0 r1 r2 : Recorder) (test : Expr) (chosen : Stmt) (other : Opt
     r2 ≡ tell r0 (events (runs (If test chosen other) k f))
 told-then r0 r1 r2 test chosen other k j f n found nonzero tested same rest =
     told-If r0 r1 r2 test chosen other k f (Some n) (events (runs chosen (k + 1) f)) found tested
-      (rest ∙ tell-agrees r1 (λ i. events (runs chosen i f)) j (k + 1) same) (rw nonzero refl)
+    (rest ∙ tell-agrees r1 (λ i. events (runs chosen i f)) j (k + 1) same) (rw nonzero refl)
 
 pub told-no-else : (r0 r1 : Recorder) (test : Expr) (chosen : Stmt) (other : Option Stmt) (k : ℕ) (f : Frame) (n : ℤ) → value test f.state ≡ Some n → is_zero n ≡ true → other ≡ None →
     r1 ≡ tell r0 (event k w.Test (value test f.state) ∷ []) → r1 ≡ tell r0 (events (runs (If test chosen other) k f))
@@ -67,8 +67,8 @@ pub told-else : (r0 r1 r2 : Recorder) (test : Expr) (chosen last : Stmt) (other 
     r2 ≡ tell r0 (events (runs (If test chosen other) k f))
 told-else r0 r1 r2 test chosen last other k i j f n found zeroed some tested first second rest =
     told-If r0 r1 r2 test chosen other k f (Some n) (events (runs last (k + 1 + stmt_count chosen) f)) found tested
-      (rest ∙ tell-agrees r1 (λ m. events (runs last m f)) j (i + stmt_count chosen) second
-       ∙ tell-agrees r1 (λ m. events (runs last (m + stmt_count chosen) f)) i (k + 1) first) (rw (zeroed, some) refl)
+    (rest ∙ tell-agrees r1 (λ m. events (runs last m f)) j (i + stmt_count chosen) second
+    ∙ tell-agrees r1 (λ m. events (runs last (m + stmt_count chosen) f)) i (k + 1) first) (rw (zeroed, some) refl)
 
 -- one statement of a list, behind which the run goes on or ends
 pub told-next : (r r1 : Recorder) (s : Stmt) (all : List Stmt) (k j : ℕ) (f g : Frame) → exec s f ≡ goes g → r1 ≡ tell r (events (runs s k f)) → Agrees r1 j (k + stmt_count s) →
@@ -119,11 +119,14 @@ told-turn r r1 r2 k j test s f g n (suc m) whole said found nonzero left enough 
     let body = runs s (k + 1) (spend f) in
     let later = loop_run k test (λ h. exec s h) (runs s (k + 1)) m in
     let both : tell r2 (events (later g)) ≡ tell r1 (events body ++ events (later g)) =
-      ap (λ (q : Recorder). tell q (events (later g))) (told ∙ tell-agrees r1 (λ i. events (runs s i (spend f))) j (k + 1) agrees) ∙ tell-more r1 (events body) (events (later g)) in
-    (m, omega arith, sym step ∙ same,
+    ap (λ (q : Recorder). tell q (events (later g))) (told ∙ tell-agrees r1 (λ i. events (runs s i (spend f))) j (k + 1) agrees) ∙ tell-more r1 (events body) (events (later g)) in (
+      m,
+      omega arith,
+      sym step ∙ same,
       both ∙ ap (λ (q : Recorder). tell q (events body ++ events (later g))) tested ∙ tell-more r _ _
-      ∙ ap (λ (t : Step). tell r (event k w.Test (value test f.state) ∷ (events body ++ events (follow t later)))) (sym going)
-      ∙ ap (λ (es : List Event). tell r es) (sym (loop-turned k test (λ h. exec s h) (runs s (k + 1)) m f n found nonzero some)) ∙ saying)
+          ∙ ap (λ (t : Step). tell r (event k w.Test (value test f.state) ∷ (events body ++ events (follow t later)))) (sym going)
+          ∙ ap (λ (es : List Event). tell r es) (sym (loop-turned k test (λ h. exec s h) (runs s (k + 1)) m f n found nonzero some)) ∙ saying,
+    )
 
 pub told-ending : (r r1 r2 : Recorder) (k j : ℕ) (test : Expr) (s : Stmt) (f g : Frame) (n : ℤ) (more : ℕ) (how : Ending) (said : Recorder) →
     value test f.state ≡ Some n → is_zero n ≡ false → (f.turns ≡ 0 → ⊥) → f.turns ≤ more →
@@ -140,3 +143,10 @@ told-ending r r1 r2 k j test s f g n (suc m) how said found nonzero left enough 
     ∙ ap (λ (es : List Event). tell r (event k w.Test (value test f.state) ∷ es)) (sym (append-nil (events body)))
     ∙ ap (λ (t : Step). tell r (event k w.Test (value test f.state) ∷ (events body ++ events (follow t later)))) (sym ending)
     ∙ ap (λ (es : List Event). tell r es) (sym (loop-turned k test (λ h. exec s h) (runs s (k + 1)) m f n found nonzero some)) ∙ saying
+
+pub loop-ending : (test : Expr) (body : Frame → Step) (f g : Frame) (n : ℤ) (more : ℕ) (how : Ending) (whole : Step) → value test f.state ≡ Some n → is_zero n ≡ false → (f.turns ≡ 0 → ⊥) → f.turns ≤ more →
+    body (spend f) ≡ ends g how → loop test body more f ≡ whole → whole ≡ ends g how
+loop-ending test body f g n zero how whole found nonzero left enough ending same = absurd (left (omega arith))
+loop-ending test body f g n (suc m) how whole found nonzero left enough ending same =
+    let some : (f.turns == 0) ≡ false = grind (arith, nat_tests) in
+    sym same ∙ rw (found, nonzero, some, ending) refl

@@ -5,13 +5,13 @@ ghost use Rattle.prv_model.specs.Numbers.{statements, statements_all};
 ghost use Rattle.prv_model.specs.Programs.{stmt_over, all_true};
 ghost use Rattle.prv_model.specs.Statements.{exec, exec_all, loop, with_value, goes, ends, assign as assign_to, put};
 ghost use Rattle.prv_run.specs.Frames.{frame_of, step_of};
-ghost use Rattle.prv_run.specs.Runs.{runs, runs_all, loop_run, evaluation, event, events, Sets, Asserts};
+ghost use Rattle.prv_run.specs.Runs.{runs, runs_all, event, events};
 ghost use Rattle.prv_run.specs.Telling.{tell, Knows};
 
 use crate::event::What;
 use crate::record::Recorder;
 use prv_model::{Ending, Expr, Stmt};
-use sqlite_items::{Boxed, Items};
+use sqlite_items::Items;
 use std::alloc::AllocError;
 
 /// Where a run stands: the variables' words, what it has put out, and the turns that are left.
@@ -42,51 +42,47 @@ pub fn execute(
     match stmt {
         Stmt::Skip => Ok(None),
         Stmt::Set { var, value } => assign(*var, value, number, frame, recorder),
-        Stmt::If { test, yes, no } => decide(test, yes.get(), no, number, frame, recorder),
+        Stmt::If { test, yes, no } => {
+            let found = recorder.evaluate(number, What::Test, test, frame.state.as_slice())?;
+            let first = recorder.inside(number);
+            match found {
+                None => Ok(Some(Ending::Fault)),
+                Some(n) => {
+                    if n != 0 {
+                        let ending = execute(yes.get(), first, frame, recorder)?;
+                        Ok(ending)
+                    } else {
+                        match no {
+                            None => Ok(None),
+                            Some(branch) => {
+                                let second = recorder.behind(first);
+                                let ending = execute(branch.get(), second, frame, recorder)?;
+                                Ok(ending)
+                            }
+                        }
+                    }
+                }
+            }
+        }
         Stmt::While { test, body } => repeat(body.get(), test, number, frame, recorder),
         Stmt::Return(value) => {
             let ending = put_out(value, number, What::Return, frame, recorder)?;
             Ok(ending.or(Some(Ending::Returned)))
         }
-        Stmt::Out(value) => put_out(value, number, What::Out, frame, recorder),
-        Stmt::Assert(value) => check(value, number, frame, recorder),
-        Stmt::Block(all) => execute_all(all.as_slice(), recorder.inside(number), frame, recorder),
-        Stmt::Marked { mark: _, body } => {
-            execute(body.get(), recorder.inside(number), frame, recorder)
+        Stmt::Out(value) => {
+            let ending = put_out(value, number, What::Out, frame, recorder)?;
+            Ok(ending)
         }
-    }
-}
-
-/// Runs an `if`.
-#[cycle(execute)]
-fn decide(
-    test: &Expr,
-    yes: &Stmt,
-    no: &Option<Boxed<Stmt>>,
-    number: u32,
-    frame: &mut Frame,
-    recorder: &mut Recorder,
-) -> Result<Option<Ending>, AllocError>
-    requires over { stmt_over (length frame.old.state) (Stmt.If test.now yes.now no.now) ≡ true }
-    requires known { Knows recorder.old number (statements (Stmt.If test.now yes.now no.now)) }
-    ensures done { IfOk result (λ ending. exec (Stmt.If test.now yes.now no.now) (frame_of frame.old) ≡ step_of frame.new ending) }
-    ensures told { OnOk result (recorder.new ≡ tell recorder.old (events (runs (Stmt.If test.now yes.now no.now) number (frame_of frame.old)))) }
-    ensures spent { frame.new.turns ≤ frame.old.turns }
-    ensures variables { length frame.new.state ≡ length frame.old.state }
-{
-    let found = recorder.evaluate(number, What::Test, test, frame.state.as_slice())?;
-    let first = recorder.inside(number);
-    match found {
-        None => Ok(Some(Ending::Fault)),
-        Some(n) => {
-            if n != 0 {
-                execute(yes, first, frame, recorder)
-            } else {
-                match no {
-                    None => Ok(None),
-                    Some(branch) => execute(branch.get(), recorder.behind(first), frame, recorder),
-                }
-            }
+        Stmt::Assert(value) => check(value, number, frame, recorder),
+        Stmt::Block(all) => {
+            let first = recorder.inside(number);
+            let ending = execute_all(all.as_slice(), first, frame, recorder)?;
+            Ok(ending)
+        }
+        Stmt::Marked { mark: _, body } => {
+            let first = recorder.inside(number);
+            let ending = execute(body.get(), first, frame, recorder)?;
+            Ok(ending)
         }
     }
 }
@@ -157,6 +153,7 @@ fn repeat(
 }
 
 /// Gives a variable the value of an expression.
+#[tactic(auto, using(crate::proofs::RunLaws::run_laws))]
 fn assign(
     var: u8,
     value: &Expr,
@@ -166,7 +163,7 @@ fn assign(
 ) -> Result<Option<Ending>, AllocError>
     requires { var < length frame.old.state }
     ensures done { IfOk result (λ ending. with_value value.now (frame_of frame.old) (λ n. goes (assign_to (frame_of frame.old) var n)) ≡ step_of frame.new ending) }
-    ensures told { OnOk result (recorder.new ≡ tell recorder.old (events (evaluation number (Sets var) value.now (frame_of frame.old)))) }
+    ensures told { OnOk result (recorder.new ≡ tell recorder.old (events (runs (Stmt.Set var value.now) number (frame_of frame.old)))) }
     ensures spent { frame.new.turns ≡ frame.old.turns }
     ensures variables { length frame.new.state ≡ length frame.old.state }
 {
@@ -204,6 +201,7 @@ fn put_out(
 }
 
 /// Whether an assertion ends the run.
+#[tactic(auto, using(crate::proofs::RunLaws::run_laws))]
 fn check(
     value: &Expr,
     number: u32,
@@ -211,7 +209,7 @@ fn check(
     recorder: &mut Recorder,
 ) -> Result<Option<Ending>, AllocError>
     ensures done { IfOk result (λ ending. with_value value.now (frame_of frame.now) (λ n. if is_zero n then ends (frame_of frame.now) Ending.Assert else goes (frame_of frame.now)) ≡ step_of frame.now ending) }
-    ensures told { OnOk result (recorder.new ≡ tell recorder.old (events (evaluation number Asserts value.now (frame_of frame.now)))) }
+    ensures told { OnOk result (recorder.new ≡ tell recorder.old (events (runs (Stmt.Assert value.now) number (frame_of frame.now)))) }
 {
     let found = recorder.evaluate(number, What::Assert, value, frame.state.as_slice())?;
     match found {

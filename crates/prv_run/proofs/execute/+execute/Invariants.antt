@@ -20,8 +20,8 @@ invariant-execute_all-loop-stmt l = record {
 abbrev pub invariant-repeat-loop-found : goal.invariant-repeat-loop-found
 invariant-repeat-loop-found l = record {
   same : (more : ℕ) × (l.frame.turns ≤ more)
-    × (loop l.test (λ f. exec l.body f) more (frame_of l.frame) ≡ loop l.test (λ f. exec l.body f) l.initial.frame.turns (frame_of l.initial.frame))
-    × (tell l.recorder (events (loop_run l.number l.test (λ f. exec l.body f) (runs l.body (l.number + 1)) more (frame_of l.frame)))
+      × (loop l.test (λ f. exec l.body f) more (frame_of l.frame) ≡ loop l.test (λ f. exec l.body f) l.initial.frame.turns (frame_of l.initial.frame))
+      × (tell l.recorder (events (loop_run l.number l.test (λ f. exec l.body f) (runs l.body (l.number + 1)) more (frame_of l.frame)))
       ≡ tell l.initial.recorder (events (loop_run l.number l.test (λ f. exec l.body f) (runs l.body (l.number + 1)) l.initial.frame.turns (frame_of l.initial.frame))));
   known : Knows l.recorder l.first (statements l.body);
   agrees : Agrees l.recorder l.first (l.number + 1);

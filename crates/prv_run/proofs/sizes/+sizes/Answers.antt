@@ -8,7 +8,7 @@ push_inside-returns-in-None t c = added-then _ c.in-If.yes c.in-If.no c.in-If.te
 pub push_inside-returns-in_ok-push_sizes-in-Some : goal.push_inside-returns-in_ok-push_sizes-in-Some
 push_inside-returns-in_ok-push_sizes-in-Some t c =
     added-else _ c.in-If.yes c.in-Some.branch c.in-If.no c.in-If.test _ c.push_sizes.new.sizes _ c.in-If.is c.in-Some.is
-      (rw c.get.ensures at c.in_ok-push_sizes-in-If.ensures) (rw c.get-in-Some.ensures at c.in_ok-push_sizes-in-Some.ensures)
+    (rw c.get.ensures at c.in_ok-push_sizes-in-If.ensures) (rw c.get-in-Some.ensures at c.in_ok-push_sizes-in-Some.ensures)
 
 pub push_inside-returns-in_ok-push_sizes-in-While : goal.push_inside-returns-in_ok-push_sizes-in-While
 push_inside-returns-in_ok-push_sizes-in-While t c =
@@ -29,4 +29,4 @@ push_inside-returns-in_default t c =
 pub push_sizes-returns : goal.push_sizes-returns
 push_sizes-returns t c =
     added-size c.args.stmt.now c.args.sizes.now c.push.new.self c.push_inside.new.sizes c.set.new.self
-      c.in_ok-push.ensures.ok c.in_ok-push_inside.ensures (rw (c.len.ensures, c.len-place.ensures) at c.set.ensures)
+    c.in_ok-push.ensures.ok c.in_ok-push_inside.ensures (rw (c.len.ensures, c.len-place.ensures) at c.set.ensures)
