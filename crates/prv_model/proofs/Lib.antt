@@ -3,4 +3,5 @@ pub mod WordLaws
 pub mod ProgramLemmas
 pub mod TermLemmas
 pub mod NumberLaws
+pub mod TextOrder
 pub mod VerdictLaws
