@@ -1,13 +1,13 @@
 -- An expression has one value wherever its variables have the same words, and one that may not fault has a value. A statement that
 -- may not leave goes on, with nothing put out, no turn spent, and each variable as it was that it doesn't write.
-use Rattle.std.proofs.Common.{◌≡◌, ℕ, zero, suc, ◌<◌, ◌≤◌, Bool, true, false, ◌&&◌, ◌||◌, not, List, [], ◌∷◌, ◌++◌, length, Option, Some, None, ℤ, pos, negsuc, if◌then◌else◌, refl, sym, ap, ◌∙◌, subst, arith, slice_get, slice_set, map, nat_lt, nat_eq, int_div, int_rem}
+use Rattle.std.proofs.Common.{◌≡◌, ℕ, zero, suc, Bool, true, false, ◌&&◌, ◌||◌, not, List, [], ◌∷◌, ◌++◌, length, Option, Some, None, ℤ, if◌then◌else◌, refl, sym, ap, ◌∙◌, subst, arith, slice_get, slice_set, map, nat_lt, nat_eq, int_div, int_rem}
 use Rattle.std.specs.Option.{option_map, option_and_then}
-use Rattle.std.specs.List.{list_any, list_all, flat_map}
+use Rattle.std.specs.List.{list_any, flat_map}
 use Rattle.std.proofs.lemmas.List.Folds.{list_any-append}
 use Rattle.std.proofs.lemmas.List.{length-set}
-use Rattle.prv_model.specs.Words.{is_zero, flag, truth, unary, binary, wrap}
+use Rattle.prv_model.specs.Words.{is_zero, truth, unary, binary, wrap}
 use Rattle.prv_model.specs.Expressions.{value, node_value, operate, pick}
-use Rattle.prv_model.specs.Programs.{expr_over, node_expr_over, stmt_over, node_stmt_over, all_true, passed}
+use Rattle.prv_model.specs.Programs.{expr_over, node_expr_over, stmt_over, node_stmt_over, all_true}
 use Rattle.prv_model.specs.Statements.{Frame, Step, exec, node_exec, goes, assign, in_turn, and_then, on_word}
 use Rattle.prv_model.specs.declared.op.BinOp.{BinOp}
 use Rattle.prv_model.specs.declared.op.BinOp.TheVariants as b
@@ -17,7 +17,7 @@ use Rattle.prv_model.specs.declared.expr.Expr.TheFolds.{fold-roll-Expr, ind-Expr
 use Rattle.prv_model.specs.declared.stmt.Stmt.{Stmt, roll-Stmt, map-Stmt}
 use Rattle.prv_model.specs.declared.stmt.Stmt.TheOpen.{Stmt-F}
 use Rattle.prv_model.specs.declared.stmt.Stmt.TheFolds.{fold-roll-Stmt, ind-Stmt}
-use Rattle.prv_dep.specs.Dependences.{has, vars, node_vars, divides, Divisions, divisions, node_divisions, may_fault, may_leave, node_may_leave, writes, node_writes, branch_any, branch_list, evaluates}
+use Rattle.prv_dep.specs.Dependences.{has, vars, node_vars, divides, Divisions, divisions, node_divisions, may_fault, may_leave, node_may_leave, writes, node_writes, evaluates}
 
 pub or-left : (p q : Bool) → p ≡ true → (p || q) ≡ true
 or-left true q e = refl
@@ -196,8 +196,8 @@ sure-step s (Expr-F.Bin op a c) = λ o.
     let two = c.1 (and-right _ _ h) in
     rw (f, g) (record {
       sure = λ e.
-        let both = neither-left ((divisions a.0).may_fault || (divisions c.0).may_fault) _ e in
-        sure-operate (divides op) op (value a.0 s) (value c.0 s) (divisions c.0).nonzero refl (neither-right ((divisions a.0).may_fault || (divisions c.0).may_fault) _ e)
+          let both = neither-left ((divisions a.0).may_fault || (divisions c.0).may_fault) _ e in
+          sure-operate (divides op) op (value a.0 s) (value c.0 s) (divisions c.0).nonzero refl (neither-right ((divisions a.0).may_fault || (divisions c.0).may_fault) _ e)
           (one.sure (neither-left _ _ both)) (two.sure (neither-right (divisions a.0).may_fault _ both)) two.nonzero;
       nonzero = λ e. cc;
     })
@@ -209,8 +209,8 @@ sure-step s (Expr-F.Pick a c d) = λ o.
     let k = and-right (expr_over (length s) a.0) _ h in
     rw (f, g) (record {
       sure = λ e.
-        let rest = neither-right (divisions a.0).may_fault _ e in
-        sure-pick (value a.0 s) (value c.0 s) (value d.0 s) ((a.1 (and-left _ _ h)).sure (neither-left _ _ e))
+          let rest = neither-right (divisions a.0).may_fault _ e in
+          sure-pick (value a.0 s) (value c.0 s) (value d.0 s) ((a.1 (and-left _ _ h)).sure (neither-left _ _ e))
           ((c.1 (and-left _ _ k)).sure (neither-left _ _ rest)) ((d.1 (and-right _ _ k)).sure (neither-right (divisions c.0).may_fault _ rest));
       nonzero = λ e. cc;
     })
@@ -241,7 +241,10 @@ quiet-less few more f step h q = record { going = q.going; outs = q.outs; turns 
 quiet-then : (first rest : List ℕ) (f : Frame) (step : Step) (next : Frame → Step) → IsQuiet first f step → IsQuiet rest step.frame (next step.frame) →
     IsQuiet (first ++ rest) f (and_then step next)
 quiet-then first rest f step next q r = rw q.going (record {
-  going = r.going; outs = r.outs ∙ q.outs; turns = r.turns ∙ q.turns; size = r.size ∙ q.size;
+  going = r.going;
+  outs = r.outs ∙ q.outs;
+  turns = r.turns ∙ q.turns;
+  size = r.size ∙ q.size;
   others = λ v e. r.others v (lacks-right first rest v e) ∙ q.others v (lacks-left first rest v e);
 })
 
@@ -258,7 +261,10 @@ lacks-one w v e = neither-left _ _ e
 set-quiet : (var : ℕ) (f : Frame) (v : Option ℤ) → evaluates v ≡ true → IsQuiet (var ∷ []) f (on_word v f (λ n. goes (assign f var n)))
 set-quiet var f None e = cc
 set-quiet var f (Some n) e = record {
-  going = refl; outs = refl; turns = refl; size = length-set f.state var n;
+  going = refl;
+  outs = refl;
+  turns = refl;
+  size = length-set f.state var n;
   others = λ v e. other-place f.state var v n (lacks-one var v e);
 }
 
@@ -285,7 +291,7 @@ block-quiet (first ∷ rest) f o e =
     let over : all_true (map (λ s. stmt_over (length (exec first.0 f).frame.state) s) (stmts_of rest)) ≡ true =
     rw one.size (and-right (stmt_over (length f.state) first.0) _ o) in
     quiet-then (writes first.0) _ f (exec first.0 f) (in_turn (map (λ s. exec s) (stmts_of rest))) one
-      (block-quiet rest (exec first.0 f).frame over (neither-right (may_leave first.0) _ e))
+    (block-quiet rest (exec first.0 f).frame over (neither-right (may_leave first.0) _ e))
 
 quiet-step : (z : Stmt-F ((s : Stmt) × Quiet s)) → Quiet (roll-Stmt (map-Stmt ((s : Stmt) × Quiet s) Stmt (λ e. e.0) z))
 quiet-step Stmt-F.Skip = λ f o e.
@@ -306,9 +312,9 @@ quiet-step (Stmt-F.If test chosen None) = λ f o e.
     let rest = and-right (expr_over (length f.state) test) _ over in
     let still = neither-right (may_fault test) _ stays in
     rw (x, w) (if-quiet (value test f.state) (writes chosen.0) [] f (exec chosen.0 f) (goes f)
-      (sure-value f.state test (and-left (expr_over (length f.state) test) _ over) (neither-left (may_fault test) _ stays))
-      (chosen.1 f (and-left (stmt_over (length f.state) chosen.0) _ rest) (neither-left (may_leave chosen.0) _ still))
-      (same-quiet [] f))
+    (sure-value f.state test (and-left (expr_over (length f.state) test) _ over) (neither-left (may_fault test) _ stays))
+    (chosen.1 f (and-left (stmt_over (length f.state) chosen.0) _ rest) (neither-left (may_leave chosen.0) _ still))
+    (same-quiet [] f))
 quiet-step (Stmt-F.If test chosen (Some other)) = λ f o e.
     let x = ap (λ (g : Frame → Step). g f) (fold-roll-Stmt (Frame → Step) node_exec (Stmt-F.If test chosen.0 (Some other.0))) in
     let w = fold-roll-Stmt (List ℕ) node_writes (Stmt-F.If test chosen.0 (Some other.0)) in
@@ -318,9 +324,9 @@ quiet-step (Stmt-F.If test chosen (Some other)) = λ f o e.
     let rest = and-right (expr_over (length f.state) test) _ over in
     let still = neither-right (may_fault test) _ stays in
     rw (x, w) (if-quiet (value test f.state) (writes chosen.0) (writes other.0) f (exec chosen.0 f) (exec other.0 f)
-      (sure-value f.state test (and-left (expr_over (length f.state) test) _ over) (neither-left (may_fault test) _ stays))
-      (chosen.1 f (and-left (stmt_over (length f.state) chosen.0) _ rest) (neither-left (may_leave chosen.0) _ still))
-      (other.1 f (and-right (stmt_over (length f.state) chosen.0) _ rest) (neither-right (may_leave chosen.0) _ still)))
+    (sure-value f.state test (and-left (expr_over (length f.state) test) _ over) (neither-left (may_fault test) _ stays))
+    (chosen.1 f (and-left (stmt_over (length f.state) chosen.0) _ rest) (neither-left (may_leave chosen.0) _ still))
+    (other.1 f (and-right (stmt_over (length f.state) chosen.0) _ rest) (neither-right (may_leave chosen.0) _ still)))
 quiet-step (Stmt-F.While test body) = λ f o e. absurd (cc (sym (fold-roll-Stmt Bool node_may_leave (Stmt-F.While test body.0)) ∙ e))
 quiet-step (Stmt-F.Return it) = λ f o e. absurd (cc (sym (fold-roll-Stmt Bool node_may_leave (Stmt-F.Return it)) ∙ e))
 quiet-step (Stmt-F.Out it) = λ f o e. absurd (cc (sym (fold-roll-Stmt Bool node_may_leave (Stmt-F.Out it)) ∙ e))
