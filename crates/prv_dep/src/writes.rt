@@ -43,6 +43,13 @@ impl Writes {
         Ok(Writes { rows })
     }
 
+    /// How many statements there are.
+    pub fn len(&self) -> usize
+        ensures { result ≡ length self.now }
+    {
+        self.rows.len()
+    }
+
     /// Whether a statement, or one inside it, may give this variable a value.
     pub fn may_write(&self, stmt: u32, var: u8) -> bool
         requires number { stmt < length self.now }
