@@ -3,5 +3,6 @@ pub mod WordLaws
 pub mod ProgramLemmas
 pub mod TermLemmas
 pub mod NumberLaws
+pub mod TextOrder
 pub mod VerdictLaws
 pub mod OrderLemmas

@@ -9,7 +9,7 @@ use Rattle.prv_model.specs.declared.expr.Expr.{Expr}
 use Rattle.prv_model.specs.declared.stmt.Stmt.{Stmt, roll-Stmt}
 use Rattle.prv_model.specs.declared.stmt.Stmt.TheOpen.{Stmt-F}
 use Rattle.prv_model.specs.declared.stmt.Stmt.TheFolds.{para-Stmt, para-roll-Stmt, fold-Stmt, fold-roll-Stmt, ind-Stmt, map-Stmt}
-use Rattle.prv_model.specs.declared.stmt.Stmt.TheVariants.{Skip, Set, If, While, Return, Out, Assert, Block, Marked, rolls-If, rolls-While, rolls-Block, rolls-Marked}
+use Rattle.prv_model.specs.declared.stmt.Stmt.TheVariants.{Skip, Set, If, While, Return, Out, Assert, Block, Marked, rolls-Skip, rolls-Set, rolls-If, rolls-While, rolls-Return, rolls-Out, rolls-Assert, rolls-Block, rolls-Marked}
 
 pub inside-If : (test : Expr) (chosen : Stmt) (other : Option Stmt) → inside (If test chosen other) ≡ statements chosen ++ branch_inside (option_map (λ s. (s, inside s)) other)
 inside-If test chosen None = ap (λ (s : Stmt). inside s) (sym (rolls-If test chosen None)) ∙ para-roll-Stmt (List Stmt) node_inside (Stmt-F.If test chosen None)
@@ -93,3 +93,18 @@ pub inside-none : (s : Stmt) →
     ((all : List Stmt) → s ≡ Block all → ⊥) →
     ((mark : ℕ) (body : Stmt) → s ≡ Marked mark body → ⊥) → inside s ≡ []
 inside-none s = ind-Stmt HasNone (λ z y is. subst (λ (w : Stmt-F Stmt). HasNone (roll-Stmt w)) is (none-step y)) s
+
+pub inside-Skip : inside Skip ≡ []
+inside-Skip = ap (λ (s : Stmt). inside s) (sym rolls-Skip) ∙ para-roll-Stmt (List Stmt) node_inside Stmt-F.Skip
+
+pub inside-Set : (var : ℕ) (e : Expr) → inside (Set var e) ≡ []
+inside-Set var e = ap (λ (s : Stmt). inside s) (sym (rolls-Set var e)) ∙ para-roll-Stmt (List Stmt) node_inside (Stmt-F.Set var e)
+
+pub inside-Return : (e : Expr) → inside (Return e) ≡ []
+inside-Return e = ap (λ (s : Stmt). inside s) (sym (rolls-Return e)) ∙ para-roll-Stmt (List Stmt) node_inside (Stmt-F.Return e)
+
+pub inside-Out : (e : Expr) → inside (Out e) ≡ []
+inside-Out e = ap (λ (s : Stmt). inside s) (sym (rolls-Out e)) ∙ para-roll-Stmt (List Stmt) node_inside (Stmt-F.Out e)
+
+pub inside-Assert : (e : Expr) → inside (Assert e) ≡ []
+inside-Assert e = ap (λ (s : Stmt). inside s) (sym (rolls-Assert e)) ∙ para-roll-Stmt (List Stmt) node_inside (Stmt-F.Assert e)

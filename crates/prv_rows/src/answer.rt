@@ -1,8 +1,11 @@
+ghost use Rattle.std.specs.Prelude.{◌<◌, length};
+
 use crate::expansion::expanded;
 use crate::refusal::Refusal;
-use crate::stages::{pair_of, run_of, tree_of, version_of};
+use crate::stages::{pair_of, run_of, trace_of, tree_of, version_of};
 use crate::tokens::{show_bytes, show_skeleton, show_tokens};
 use crate::trees::{show_all, show_ident};
+use prv_dep::Writes;
 use prv_lex::tokens;
 use prv_line::read_words;
 use std::alloc::{AllocError, Global};
@@ -27,6 +30,8 @@ pub fn answer(alloc: Global, row: &str) -> Result<String, Refusal> {
         "is-program" => version_answer(alloc, text),
         "pair" => pair_answer(alloc, text),
         "run" => run_answer(alloc, text),
+        "trace" => trace_answer(alloc, text),
+        "reach" => reach_answer(alloc, text),
         "words" => words_answer(alloc, text),
         _ => Err(Refusal::Row),
     }
@@ -128,6 +133,60 @@ fn run_answer(alloc: Global, text: &str) -> Result<String, Refusal> {
         write!(line, " {word}")?;
     }
     Ok(line)
+}
+
+/// As for a run, and then each evaluation: the number of its statement, what it was for, and its value.
+fn trace_answer(alloc: Global, text: &str) -> Result<String, Refusal> {
+    let (numbers, text) = text.split_once(" : ").ok_or(Refusal::Row)?;
+    let text = expanded(alloc, text)?;
+    let traced = trace_of(alloc, numbers, text.as_slice())?;
+    let how = traced.outcome.how;
+    let mut line = format!(in alloc; "{how:?}")?;
+    for word in traced.outcome.outs.as_slice() {
+        write!(line, " {word}")?;
+    }
+    for event in traced.events.as_slice() {
+        let (stmt, what, value) = (event.stmt, event.what, event.value);
+        if event.safe {
+            write!(line, "; {stmt} {what:?} {value}")?;
+        } else {
+            write!(line, "; {stmt} {what:?} {value} fault")?;
+        }
+    }
+    Ok(line)
+}
+
+/// Of each statement the variables that it may write and those that it reads, and whether it may leave.
+fn reach_answer(alloc: Global, text: &str) -> Result<String, Refusal> {
+    let text = expanded(alloc, text)?;
+    let program = version_of(alloc, text.as_slice())?.program;
+    let writes = Writes::of(alloc, &program)?;
+    let mut line = String::new(alloc);
+    for stmt in 0..1_000 {
+        if (stmt as usize) < writes.len() {
+            write!(line, "{stmt}")?;
+            show_reach(&mut line, &writes, stmt)?;
+            line.push(';')?;
+        }
+    }
+    Ok(line)
+}
+
+fn show_reach(line: &mut String, writes: &Writes, stmt: u32) -> Result<(), AllocError>
+    requires { stmt < length writes.now }
+{
+    for var in 0..64 {
+        if writes.may_write(stmt, var) {
+            write!(line, " w{var}")?;
+        }
+        if writes.reads(stmt, var) {
+            write!(line, " r{var}")?;
+        }
+    }
+    if writes.may_leave(stmt) {
+        line.push_str(" leaves")?;
+    }
+    Ok(())
 }
 
 /// Words of a command line, each with `|` behind it.

@@ -1,10 +1,13 @@
 //! From the bytes of a text to its tokens, its tree, its version and its runs.
+ghost use Rattle.std.specs.Prelude.{◌≡◌, length};
+
 use crate::refusal::Refusal;
 use prv_lex::tokens;
 use prv_marks::pair;
-use prv_model::{Input, Outcome, Pair};
+use prv_model::{Input, Outcome, Pair, Program};
 use prv_names::{Version, check};
 use prv_parse::{Tree, parse};
+use prv_run::Traced;
 use std::alloc::Global;
 
 pub fn tree_of(alloc: Global, text: &[u8]) -> Result<Tree, Refusal> {
@@ -27,8 +30,16 @@ pub fn pair_of(alloc: Global, before: &[u8], after: &[u8]) -> Result<Pair, Refus
     Ok(pair(before, after, 32)?)
 }
 
-/// What a program shows on an input of these numbers, after the bound on its turns.
-pub fn run_of(alloc: Global, numbers: &str, text: &[u8]) -> Result<Outcome, Refusal> {
+/// A program, with an input and a bound on its turns, which are the numbers before it.
+#[derive(Drop)]
+struct Case {
+    program: Program,
+    input: Input,
+    turns: u32,
+    ghost arity: { length input ≡ program.params },
+}
+
+fn case_of(alloc: Global, numbers: &str, text: &[u8]) -> Result<Case, Refusal> {
     let (turns, words) = numbers.split_once(' ').ok_or(Refusal::Row)?;
     let turns: u32 = turns.parse()?;
     let mut input = Input::new(alloc);
@@ -40,5 +51,21 @@ pub fn run_of(alloc: Global, numbers: &str, text: &[u8]) -> Result<Outcome, Refu
     if input.as_slice().len() != program.params as usize {
         return Err(Refusal::Row);
     }
-    Ok(prv_run::run(alloc, &program, &input, turns)?)
+    Ok(Case {
+        program,
+        input,
+        turns,
+    })
+}
+
+/// What a program shows on an input of these numbers, after the bound on its turns.
+pub fn run_of(alloc: Global, numbers: &str, text: &[u8]) -> Result<Outcome, Refusal> {
+    let case = case_of(alloc, numbers, text)?;
+    Ok(prv_run::run(alloc, &case.program, &case.input, case.turns)?)
+}
+
+/// What is evaluated in that run, and what it shows.
+pub fn trace_of(alloc: Global, numbers: &str, text: &[u8]) -> Result<Traced, Refusal> {
+    let case = case_of(alloc, numbers, text)?;
+    Ok(prv_run::trace(alloc, &case.program, &case.input, case.turns)?)
 }

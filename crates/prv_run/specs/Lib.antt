@@ -1,2 +1,4 @@
 pub mod Frames
+pub mod Runs
+pub mod Telling
 pub mod Points

@@ -1,10 +1,15 @@
-ghost use Rattle.std.specs.Prelude.{◌≡◌, ◌≤◌, ◌<◌, true, length, map, IfOk, if◌then◌else◌};
+ghost use Rattle.std.specs.Prelude.{◌≡◌, ◌≤◌, ◌<◌, [], ◌∷◌, true, length, map, IfOk, OnOk, if◌then◌else◌};
 ghost use Rattle.prv_model.specs.Words.{is_zero};
+ghost use Rattle.prv_model.specs.Expressions.{value as value_of};
+ghost use Rattle.prv_model.specs.Numbers.{statements, statements_all};
 ghost use Rattle.prv_model.specs.Programs.{stmt_over, all_true};
 ghost use Rattle.prv_model.specs.Statements.{exec, exec_all, loop, with_value, goes, ends, assign as assign_to, put};
 ghost use Rattle.prv_run.specs.Frames.{frame_of, step_of};
+ghost use Rattle.prv_run.specs.Runs.{runs, runs_all, event, events};
+ghost use Rattle.prv_run.specs.Telling.{tell, Knows};
 
-use crate::evaluate::evaluate;
+use crate::event::What;
+use crate::record::Recorder;
 use prv_model::{Ending, Expr, Stmt};
 use sqlite_items::Items;
 use std::alloc::AllocError;
@@ -17,70 +22,118 @@ pub struct Frame {
     pub turns: u32,
 }
 
-/// Runs a statement from a frame, and answers how it ended the run, if it did.
+/// Runs the statement with this number from a frame, and answers how it ended the run, if it did.
+///
+/// The number is of no account where nothing is recorded.
 #[cycle(execute)]
-pub fn execute(stmt: &Stmt, frame: &mut Frame) -> Result<Option<Ending>, AllocError>
-    requires { stmt_over (length frame.old.state) stmt.now ≡ true }
+pub fn execute(
+    stmt: &Stmt,
+    number: u32,
+    frame: &mut Frame,
+    recorder: &mut Recorder,
+) -> Result<Option<Ending>, AllocError>
+    requires over { stmt_over (length frame.old.state) stmt.now ≡ true }
+    requires known { Knows recorder.old number (statements stmt.now) }
     ensures done { IfOk result (λ ending. exec stmt.now (frame_of frame.old) ≡ step_of frame.new ending) }
+    ensures told { OnOk result (recorder.new ≡ tell recorder.old (events (runs stmt.now number (frame_of frame.old)))) }
     ensures spent { frame.new.turns ≤ frame.old.turns }
     ensures variables { length frame.new.state ≡ length frame.old.state }
 {
     match stmt {
         Stmt::Skip => Ok(None),
-        Stmt::Set { var, value } => Ok(assign(*var, value, frame)),
-        Stmt::If { test, yes, no } => match evaluate(test, frame.state.as_slice()) {
-            None => Ok(Some(Ending::Fault)),
-            Some(n) => {
-                if n != 0 {
-                    execute(yes.get(), frame)
-                } else {
-                    match no {
-                        None => Ok(None),
-                        Some(branch) => execute(branch.get(), frame),
+        Stmt::Set { var, value } => assign(*var, value, number, frame, recorder),
+        Stmt::If { test, yes, no } => {
+            let found = recorder.evaluate(number, What::Test, test, frame.state.as_slice())?;
+            let first = recorder.inside(number);
+            match found {
+                None => Ok(Some(Ending::Fault)),
+                Some(n) => {
+                    if n != 0 {
+                        let ending = execute(yes.get(), first, frame, recorder)?;
+                        Ok(ending)
+                    } else {
+                        match no {
+                            None => Ok(None),
+                            Some(branch) => {
+                                let second = recorder.behind(first);
+                                let ending = execute(branch.get(), second, frame, recorder)?;
+                                Ok(ending)
+                            }
+                        }
                     }
                 }
             }
-        },
-        Stmt::While { test, body } => repeat(body.get(), test, frame),
+        }
+        Stmt::While { test, body } => repeat(body.get(), test, number, frame, recorder),
         Stmt::Return(value) => {
-            let ending = put_out(value, frame)?;
+            let ending = put_out(value, number, What::Return, frame, recorder)?;
             Ok(ending.or(Some(Ending::Returned)))
         }
-        Stmt::Out(value) => put_out(value, frame),
-        Stmt::Assert(value) => Ok(check(value, frame)),
-        Stmt::Block(all) => execute_all(all.as_slice(), frame),
-        Stmt::Marked { mark: _, body } => execute(body.get(), frame),
+        Stmt::Out(value) => {
+            let ending = put_out(value, number, What::Out, frame, recorder)?;
+            Ok(ending)
+        }
+        Stmt::Assert(value) => check(value, number, frame, recorder),
+        Stmt::Block(all) => {
+            let first = recorder.inside(number);
+            let ending = execute_all(all.as_slice(), first, frame, recorder)?;
+            Ok(ending)
+        }
+        Stmt::Marked { mark: _, body } => {
+            let first = recorder.inside(number);
+            let ending = execute(body.get(), first, frame, recorder)?;
+            Ok(ending)
+        }
     }
 }
 
-/// Runs statements one after another, until one ends the run.
+/// Runs statements one after another, the first with this number, until one ends the run.
 #[cycle(execute)]
-pub fn execute_all(all: &[Stmt], frame: &mut Frame) -> Result<Option<Ending>, AllocError>
-    requires { all_true (map (λ s. stmt_over (length frame.old.state) s) all.now) ≡ true }
+pub fn execute_all(
+    all: &[Stmt],
+    number: u32,
+    frame: &mut Frame,
+    recorder: &mut Recorder,
+) -> Result<Option<Ending>, AllocError>
+    requires over { all_true (map (λ s. stmt_over (length frame.old.state) s) all.now) ≡ true }
+    requires known { Knows recorder.old number (statements_all all.now) }
     ensures done { IfOk result (λ ending. exec_all all.now (frame_of frame.old) ≡ step_of frame.new ending) }
+    ensures told { OnOk result (recorder.new ≡ tell recorder.old (events (runs_all all.now number (frame_of frame.old)))) }
     ensures spent { frame.new.turns ≤ frame.old.turns }
     ensures variables { length frame.new.state ≡ length frame.old.state }
 {
+    let mut next = number;
     for stmt in all {
-        let ending = execute(stmt, frame)?;
+        let ending = execute(stmt, next, frame, recorder)?;
         if ending.is_some() {
             return Ok(ending);
         }
+        next = recorder.behind(next);
     }
     Ok(None)
 }
 
 /// Runs a loop.
 #[cycle(execute)]
-fn repeat(body: &Stmt, test: &Expr, frame: &mut Frame) -> Result<Option<Ending>, AllocError>
-    requires { stmt_over (length frame.old.state) body.now ≡ true }
+fn repeat(
+    body: &Stmt,
+    test: &Expr,
+    number: u32,
+    frame: &mut Frame,
+    recorder: &mut Recorder,
+) -> Result<Option<Ending>, AllocError>
+    requires over { stmt_over (length frame.old.state) body.now ≡ true }
+    requires known { Knows recorder.old number (statements (Stmt.While test.now body.now)) }
     ensures done { IfOk result (λ ending.
         loop test.now (λ f. exec body.now f) frame.old.turns (frame_of frame.old) ≡ step_of frame.new ending) }
+    ensures told { OnOk result (recorder.new ≡ tell recorder.old (events (runs (Stmt.While test.now body.now) number (frame_of frame.old)))) }
     ensures spent { frame.new.turns ≤ frame.old.turns }
     ensures variables { length frame.new.state ≡ length frame.old.state }
 {
+    let first = recorder.inside(number);
     loop {
-        match evaluate(test, frame.state.as_slice()) {
+        let found = recorder.evaluate(number, What::Test, test, frame.state.as_slice())?;
+        match found {
             None => return Ok(Some(Ending::Fault)),
             Some(n) => {
                 if n == 0 {
@@ -92,7 +145,7 @@ fn repeat(body: &Stmt, test: &Expr, frame: &mut Frame) -> Result<Option<Ending>,
             return Ok(Some(Ending::Long));
         }
         frame.turns -= 1;
-        let ending = execute(body, frame)?;
+        let ending = execute(body, first, frame, recorder)?;
         if ending.is_some() {
             return Ok(ending);
         }
@@ -100,28 +153,45 @@ fn repeat(body: &Stmt, test: &Expr, frame: &mut Frame) -> Result<Option<Ending>,
 }
 
 /// Gives a variable the value of an expression.
-fn assign(var: u8, value: &Expr, frame: &mut Frame) -> Option<Ending>
+#[tactic(auto, using(crate::proofs::RunLaws::run_laws))]
+fn assign(
+    var: u8,
+    value: &Expr,
+    number: u32,
+    frame: &mut Frame,
+    recorder: &mut Recorder,
+) -> Result<Option<Ending>, AllocError>
     requires { var < length frame.old.state }
-    ensures done { with_value value.now (frame_of frame.old) (λ n. goes (assign_to (frame_of frame.old) var n)) ≡ step_of frame.new result }
+    ensures done { IfOk result (λ ending. with_value value.now (frame_of frame.old) (λ n. goes (assign_to (frame_of frame.old) var n)) ≡ step_of frame.new ending) }
+    ensures told { OnOk result (recorder.new ≡ tell recorder.old (events (runs (Stmt.Set var value.now) number (frame_of frame.old)))) }
     ensures spent { frame.new.turns ≡ frame.old.turns }
     ensures variables { length frame.new.state ≡ length frame.old.state }
 {
-    match evaluate(value, frame.state.as_slice()) {
-        None => Some(Ending::Fault),
+    let found = recorder.evaluate(number, What::Set, value, frame.state.as_slice())?;
+    match found {
+        None => Ok(Some(Ending::Fault)),
         Some(n) => {
             frame.state.set(var as usize, n);
-            None
+            Ok(None)
         }
     }
 }
 
 /// Puts the value of an expression out.
-fn put_out(value: &Expr, frame: &mut Frame) -> Result<Option<Ending>, AllocError>
+fn put_out(
+    value: &Expr,
+    number: u32,
+    what: What,
+    frame: &mut Frame,
+    recorder: &mut Recorder,
+) -> Result<Option<Ending>, AllocError>
     ensures done { IfOk result (λ ending. with_value value.now (frame_of frame.old) (λ n. goes (put (frame_of frame.old) n)) ≡ step_of frame.new ending) }
+    ensures told { OnOk result (recorder.new ≡ tell recorder.old (event number what (value_of value.now frame.old.state) ∷ [])) }
     ensures spent { frame.new.turns ≡ frame.old.turns }
     ensures variables { frame.new.state ≡ frame.old.state }
 {
-    match evaluate(value, frame.state.as_slice()) {
+    let found = recorder.evaluate(number, what, value, frame.state.as_slice())?;
+    match found {
         None => Ok(Some(Ending::Fault)),
         Some(n) => {
             frame.outs.push(n)?;
@@ -131,11 +201,19 @@ fn put_out(value: &Expr, frame: &mut Frame) -> Result<Option<Ending>, AllocError
 }
 
 /// Whether an assertion ends the run.
-fn check(value: &Expr, frame: &Frame) -> Option<Ending>
-    ensures { with_value value.now (frame_of frame.now) (λ n. if is_zero n then ends (frame_of frame.now) Ending.Assert else goes (frame_of frame.now)) ≡ step_of frame.now result }
+#[tactic(auto, using(crate::proofs::RunLaws::run_laws))]
+fn check(
+    value: &Expr,
+    number: u32,
+    frame: &Frame,
+    recorder: &mut Recorder,
+) -> Result<Option<Ending>, AllocError>
+    ensures done { IfOk result (λ ending. with_value value.now (frame_of frame.now) (λ n. if is_zero n then ends (frame_of frame.now) Ending.Assert else goes (frame_of frame.now)) ≡ step_of frame.now ending) }
+    ensures told { OnOk result (recorder.new ≡ tell recorder.old (events (runs (Stmt.Assert value.now) number (frame_of frame.now)))) }
 {
-    match evaluate(value, frame.state.as_slice()) {
-        None => Some(Ending::Fault),
-        Some(n) => if n == 0 { Some(Ending::Assert) } else { None },
+    let found = recorder.evaluate(number, What::Assert, value, frame.state.as_slice())?;
+    match found {
+        None => Ok(Some(Ending::Fault)),
+        Some(n) => Ok(if n == 0 { Some(Ending::Assert) } else { None }),
     }
 }

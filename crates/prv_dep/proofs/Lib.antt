@@ -1,0 +1,3 @@
+pub mod DependenceLaws
+pub mod MaskLaws
+pub mod RowLaws

@@ -1,0 +1,2 @@
+pub mod Dependences
+pub mod Tables
