@@ -30,9 +30,9 @@ module _ {A : Type 0} (row : Stmt → A) where
       mid ≡ old ++ map row (statements chosen) → new ≡ mid ++ map row (statements last) → new ≡ old ++ map row (inside stmt)
   added-else stmt chosen last other test old mid new is some front back =
       added old new (statements chosen ++ statements last) _
-        (back ∙ ap (λ (xs : List A). xs ++ map row (statements last)) front ∙ append_assoc old _ _
-         ∙ ap (λ (xs : List A). old ++ xs) (sym (map-append row (statements chosen) (statements last))))
-        (sym (inside-If test chosen (Some last)) ∙ ap (λ (o : Option Stmt). inside (If test chosen o)) (sym some) ∙ ap (λ (s : Stmt). inside s) (sym is))
+      (back ∙ ap (λ (xs : List A). xs ++ map row (statements last)) front ∙ append_assoc old _ _
+      ∙ ap (λ (xs : List A). old ++ xs) (sym (map-append row (statements chosen) (statements last))))
+      (sym (inside-If test chosen (Some last)) ∙ ap (λ (o : Option Stmt). inside (If test chosen o)) (sym some) ∙ ap (λ (s : Stmt). inside s) (sym is))
 
   -- nothing is inside any other statement
   pub added-none : (stmt : Stmt) (old : List A) → inside stmt ≡ [] → old ≡ old ++ map row (inside stmt)

@@ -31,5 +31,5 @@ push_inside-returns-in_default t c =
 pub push_sizes-returns : goal.push_sizes-returns
 push_sizes-returns t c =
     added-own (λ s. stmt_count s) c.args.stmt.now c.args.sizes.now c.push.new.self c.push_inside.new.sizes c.set.new.self 0 _
-      c.in_ok-push.ensures.ok c.in_ok-push_inside.ensures (rw (c.len.ensures, c.len-place.ensures) at c.set.ensures)
-      (size-is c.args.stmt.now c.args.sizes.now c.push.new.self c.push_inside.new.sizes c.in_ok-push.ensures.ok c.in_ok-push_inside.ensures)
+    c.in_ok-push.ensures.ok c.in_ok-push_inside.ensures (rw (c.len.ensures, c.len-place.ensures) at c.set.ensures)
+    (size-is c.args.stmt.now c.args.sizes.now c.push.new.self c.push_inside.new.sizes c.in_ok-push.ensures.ok c.in_ok-push_inside.ensures)
