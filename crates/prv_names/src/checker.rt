@@ -75,7 +75,11 @@ fn limits(tree: &Tree, names: &Names) -> Option<NameError>
 {
     above(What::Params, MAX_PARAMS as u32, tree.params.len() as u32)
         .or(above(What::Vars, MAX_VARS as u32, names.len()))
-        .or(above(What::Stmts, MAX_STMTS as u32, count_all(tree.body.as_slice())))
+        .or(above(
+            What::Stmts,
+            MAX_STMTS as u32,
+            count_all(tree.body.as_slice()),
+        ))
 }
 
 /// More of a kind than there may be.
