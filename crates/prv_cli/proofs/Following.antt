@@ -3,8 +3,10 @@ use Rattle.std.proofs.Common.{◌≡◌, ℕ, List, [], ◌∷◌, ◌++◌, Opt
 use Rattle.std.specs.Io.KnownBytes.{append_known}
 use Rattle.prv_io.specs.Files.{ReadsInTurn}
 use Rattle.prv_cli.specs.Steps.{Told, Trace, nothing, reading, Step, Passes, ◌>>=◌, Shown, writes}
+use Rattle.prv_cli.specs.Readings.{IsRead, read_file}
 use Rattle.prv_cli.specs.Answers.{Follows, Performs}
 use Rattle.prv_cli.specs.declared.status.Status.{Status}
+use Rattle.prv_cli.specs.declared.refusal.Who.{Who}
 use Rattle.prv_cli.specs.declared.refusal.Refusal.{Refusal}
 
 -- reads in turn, and then more of them
@@ -71,3 +73,8 @@ performs-behind reads told a b out new first next value answer passed h = record
   read = h.read;
   wrote = h.wrote;
 }
+
+-- one read of a file
+pub follows-read : {S : Type 0} (reads : S → List ℕ → S → Type 0) (told : Told) (a b : S) (who : Who) (name : List ℕ) (answer : Result (List ℕ) Refusal)
+    → reads a name b → IsRead who (told name) answer → Follows reads told a b (read_file who name) answer
+follows-read reads told a b who name answer once is = record { names = name ∷ []; did = (refl, is); read = (b, once, refl) }
