@@ -12,7 +12,7 @@ returns-in-Ok-clause-performed g c =
 
 pub returns-in-Err-Usage-clause-performed : goal.returns-in-Err-Usage-clause-performed
 returns-in-Err-Usage-clause-performed g c =
-    performs-nothing g.F.Files.reads (g.F.Files.known c.args.files.now) _ _ (says (texts c.args.words.now)) (Err (Usage c.in-Err-Usage.word)) (inl (refl, c.in-Err-Usage.ensures.refuses c.in-Err-Usage.word (ap (λ e. Err e) c.in-Err-Usage.field-0-is)))
+    performs-nothing g.F.Files.reads (g.F.Files.known c.args.files.now) _ _ (says (texts c.args.words.now)) _ (inl (refl, c.in-Err-Usage.ensures.refuses _ (cc (c.in-Err-Usage.field-0-is, c.in-Err-Usage.word-is))))
 
 pub returns-in-Err-Memory-clause-performed : goal.returns-in-Err-Memory-clause-performed
 returns-in-Err-Memory-clause-performed g c =

@@ -1,7 +1,8 @@
-use Rattle.std.proofs.Common.{◌≡◌, Ok, Err, ap, refl}
+use Rattle.std.proofs.Common.{◌≡◌, Ok, Err, ap, subst, refl}
 use Rattle.prv_model.specs.declared.limits.TheConstants.{MAX_FILE}
 use Rattle.prv_lex.specs.declared.error.LexWhy.TheVariants.{Long}
 use Rattle.prv_version.specs.declared.error.FileRefusal.TheVariants.{Lex}
+use Rattle.prv_cli.specs.Steps.{nothing}
 use Rattle.prv_cli.specs.Readings.{read_file, version_of}
 use Rattle.prv_cli.specs.declared.refusal.Refusal.TheVariants as refusal
 use Rattle.prv_cli.proofs.Following.{follows-refused, follows-both, follows-nothing, follows-read}
@@ -14,7 +15,7 @@ returns-in-Ok-clause-loaded g c =
     let bytes = c.read.new.into.items in
     follows-both g.F.Files.reads told c.args.files.now _ _ (read_file c.args.who name) (version_of c.args.who) bytes c.version_of.result
     (follows-read g.F.Files.reads told _ _ c.args.who name (Ok bytes) c.read.ensures.once (c.in-Ok.ensures.bytes, c.in-Ok.ensures.within))
-    (follows-nothing g.F.Files.reads told _ (version_of c.args.who bytes) c.version_of.result (c.version_of.ensures.given told))
+    (follows-nothing g.F.Files.reads told _ (version_of c.args.who bytes) c.version_of.result (subst (λ b. version_of c.args.who b told nothing c.version_of.result) c.as_slice.ensures.value (c.version_of.ensures.given told)))
 
 pub returns-in-Err-TooLong-clause-loaded : goal.returns-in-Err-TooLong-clause-loaded
 returns-in-Err-TooLong-clause-loaded g c =
