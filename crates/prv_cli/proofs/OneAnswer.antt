@@ -29,6 +29,7 @@ module _ {A B : Type 0} (told : Told) (first : Step A) (next : A → Step B) (si
       behind : p.before ≡ q.before → Agree p.behind a q.behind b → Agree t a u b
       behind same (inl (rest, equal)) = inl (p.trace_is ∙ ap (λ (x : Trace). x ∙∙ p.behind) same ∙ ap (λ (y : Trace). q.before ∙∙ y) rest ∙ sym q.trace_is, equal)
       behind same (inr free) = inr free
+
       by : Agree p.before (Ok p.value) q.before (Ok q.value) → Agree t a u b
       by (inl (same, equal)) =
           let one : p.value ≡ q.value = cc in
@@ -187,6 +188,7 @@ single-version_of told who bytes = single-answers told (GivesVersion bytes) (Giv
         by : Refused who bytes e → IsFree e
         by (inl free) = free
         by (inr (why, _, is)) = absurd (given-not_refused bytes v why gives is)
+
     refused : (e f : Refusal) → GivesNone who bytes e → GivesNone who bytes f → AgreeRefusals e f
     refused e f x y = by (version-refusal who bytes e x) (version-refusal who bytes f y)
       where

@@ -50,9 +50,11 @@ inputs-from front (w ∷ rest) all few = by (decided-signed w) (decided-lt (leng
     one-more : (xs : List (List ℕ)) → AllByRecursion IsSigned xs → IsSigned w → AllByRecursion IsSigned (xs ++ w ∷ [])
     one-more [] a s = (s, tt)
     one-more (x ∷ xs) a s = (a.0, one-more xs a.1 s)
+
     joined : (xs : List (List ℕ)) → (xs ++ w ∷ []) ++ rest ≡ xs ++ w ∷ rest
     joined [] = refl
     joined (x ∷ xs) = ap (λ ys. x ∷ ys) (joined xs)
+
     by : Decided (IsSigned w) → Decided (length front < 8) → (AllByRecursion IsSigned (front ++ w ∷ []) → length (front ++ w ∷ []) ≤ 8 → Answered Inputs ((front ++ w ∷ []) ++ rest)) → Answered Inputs (front ++ w ∷ rest)
     by (inl s) (inl short) go =
         let A : List (List ℕ) → Type 0 = λ ws. Answered Inputs ws in
@@ -112,6 +114,7 @@ first-word allowed s w ws given = by (decided-head w)
     of-head : (h : IsHead w) → (is_allowed allowed h.name ≡ true) ⊎ (is_allowed allowed h.name ≡ false) → Answered (Options allowed s) (w ∷ ws)
     of-head h (inl may) = given h (true-is (is_allowed allowed h.name) may)
     of-head h (inr never) = inr (0, refused_name allowed s w ws h.name h.value h.is never)
+
     by : Decided (IsHead w) → Answered (Options allowed s) (w ∷ ws)
     by (inl h) = of-head h (cases_Bool (is_allowed allowed h.name))
     by (inr never) = inr (0, refused_head allowed s w ws (λ n value is may. never (record { name = n; value = value; is = is })))
