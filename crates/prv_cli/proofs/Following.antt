@@ -1,11 +1,15 @@
 -- Calls that follow steps, one after the other.
-use Rattle.std.proofs.Common.{◌≡◌, ℕ, List, [], ◌∷◌, ◌++◌, Option, Some, None, Result, Ok, Err, ◌⊎◌, inl, inr, refl, sym, ap, ◌∙◌, subst, append-nil}
+use Rattle.std.proofs.Common.{◌≡◌, ℕ, List, [], ◌∷◌, ◌++◌, take, Option, Some, None, Result, Ok, Err, ◌⊎◌, inl, inr, refl, sym, ap, ◌∙◌, subst, append-nil}
 use Rattle.std.specs.Io.KnownBytes.{append_known}
 use Rattle.prv_io.specs.Files.{ReadsInTurn}
-use Rattle.prv_cli.specs.Steps.{Told, Trace, nothing, reading, Step, Passes, ◌>>=◌, Shown, writes}
+use Rattle.prv_io.specs.Sink.{TakesPart}
+use Rattle.prv_cli.specs.Steps.{Told, Trace, nothing, reading, writing, Step, Passes, ◌>>=◌, Shown, writes}
+use Rattle.prv_cli.specs.Readings.{IsRead, read_file}
 use Rattle.prv_cli.specs.Answers.{Follows, Performs}
 use Rattle.prv_cli.specs.declared.status.Status.{Status}
+use Rattle.prv_cli.specs.declared.refusal.Who.{Who}
 use Rattle.prv_cli.specs.declared.refusal.Refusal.{Refusal}
+use Rattle.prv_cli.specs.declared.refusal.Refusal.TheVariants.{Write}
 
 -- reads in turn, and then more of them
 reads-more : {S : Type 0} (reads : S → List ℕ → S → Type 0) (a b c : S) (names more : List (List ℕ)) → ReadsInTurn reads a names b → ReadsInTurn reads b more c → ReadsInTurn reads a (names ++ more) c
@@ -45,9 +49,13 @@ pub performs-refused : {S A B : Type 0} (reads : S → List ℕ → S → Type 0
     → Follows reads told a b first (Err why) → Performs reads told a b out out (first >>= next) (Err why)
 performs-refused reads told a b out first next why h = record { trace = reading h.names; did = inl h.did; read = h.read; wrote = takes-nothing out }
 
+-- what was done to show something: the output took it, or a part of it
+abbrev pub Wrote : Told → Shown → Result Status Refusal → Option (List ℕ) → Option (List ℕ) → Type 0
+Wrote told shown answer out new = (trace : Trace) × writes shown told trace answer × (trace.reads ≡ []) × (new ≡ append_known out trace.writes)
+
 -- what is shown is written
 pub performs-writes : {S : Type 0} (reads : S → List ℕ → S → Type 0) (told : Told) (a b : S) (out new : Option (List ℕ)) (first : Step Shown) (shown : Shown) (answer : Result Status Refusal)
-    → Follows reads told a b first (Ok shown) → ((trace : Trace) × writes shown told trace answer × (trace.reads ≡ []) × (new ≡ append_known out trace.writes))
+    → Follows reads told a b first (Ok shown) → Wrote told shown answer out new
     → Performs reads told a b out new (first >>= writes) answer
 performs-writes reads told a b out new first shown answer h (trace, did, none, wrote) =
     let whole : Trace = record { reads = h.names ++ trace.reads; writes = trace.writes } in
@@ -71,3 +79,19 @@ performs-behind reads told a b out new first next value answer passed h = record
   read = h.read;
   wrote = h.wrote;
 }
+
+-- one read of a file
+pub follows-read : {S : Type 0} (reads : S → List ℕ → S → Type 0) (told : Told) (a b : S) (who : Who) (name : List ℕ) (answer : Result (List ℕ) Refusal)
+    → reads a name b → IsRead who (told name) answer → Follows reads told a b (read_file who name) answer
+follows-read reads told a b who name answer once is = record { names = name ∷ []; did = (refl, is); read = (b, once, refl) }
+
+pub wrote-all : (told : Told) (shown : Shown) (status : Status) (out new : Option (List ℕ)) → status ≡ shown.status → new ≡ append_known out shown.text → Wrote told shown (Ok status) out new
+wrote-all told shown status out new same took = (
+  writing shown.text,
+  record { value = tt; before = writing shown.text; behind = nothing; trace_is = ap (λ (w : List ℕ). writing w) (sym (append-nil shown.text)); passed = refl; answered = (refl, same) },
+  refl,
+  took,
+)
+
+pub wrote-part : (told : Told) (shown : Shown) (out new : Option (List ℕ)) → TakesPart out new shown.text → Wrote told shown (Err Write) out new
+wrote-part told shown out new (count, fewer, took) = (writing (take count shown.text), inl (count, fewer, refl), refl, took)

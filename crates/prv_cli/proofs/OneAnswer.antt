@@ -4,7 +4,7 @@ use Rattle.prv_io.specs.Files.{Known, Absent, Holds, Unknown, MayHold, MayBeLong
 use Rattle.prv_model.specs.declared.limits.TheConstants.{MAX_FILE}
 use Rattle.prv_lex.specs.declared.error.LexWhy.TheVariants.{Long}
 use Rattle.prv_names.specs.declared.version.Version.{Version}
-use Rattle.prv_version.specs.Versions.{IsFileRefused}
+use Rattle.prv_version.specs.Versions.{GivesVersion, IsFileRefused}
 use Rattle.prv_version.specs.declared.error.FileRefusal.{FileRefusal}
 use Rattle.prv_version.specs.declared.error.FileRefusal.TheVariants as file
 use Rattle.prv_version.proofs.OneAnswer.{given-not_refused, refused-one}
@@ -29,6 +29,7 @@ module _ {A B : Type 0} (told : Told) (first : Step A) (next : A → Step B) (si
       behind : p.before ≡ q.before → Agree p.behind a q.behind b → Agree t a u b
       behind same (inl (rest, equal)) = inl (p.trace_is ∙ ap (λ (x : Trace). x ∙∙ p.behind) same ∙ ap (λ (y : Trace). q.before ∙∙ y) rest ∙ sym q.trace_is, equal)
       behind same (inr free) = inr free
+
       by : Agree p.before (Ok p.value) q.before (Ok q.value) → Agree t a u b
       by (inl (same, equal)) =
           let one : p.value ≡ q.value = cc in
@@ -52,10 +53,10 @@ module _ {A B : Type 0} (told : Told) (first : Step A) (next : A → Step B) (si
       by (inr (inl free)) = inr (inl free)
       by (inr (inr never)) = absurd never
 
-  both-stop : (t u : Trace) (e f : Refusal) → first told t (Err e) → first told u (Err f) → Agree {B} t (Err e) u (Err f)
+  both-stop : (t u : Trace) (e f : Refusal) → first told t (Err e) → first told u (Err f) → Agree {A = B} t (Err e) u (Err f)
   both-stop t u e f x y = by (single t u (Err e) (Err f) x y)
     where
-      by : Agree {A} t (Err e) u (Err f) → Agree {B} t (Err e) u (Err f)
+      by : Agree {A = A} t (Err e) u (Err f) → Agree {A = B} t (Err e) u (Err f)
       by (inl (same, equal)) = let one : e ≡ f = cc in inl (same, ap (λ (z : Refusal). Err z) one)
       by (inr free) = inr free
 
@@ -85,7 +86,7 @@ single-answers told Gives Refuses one apart refused t u (Ok a) (Err f) (s, x) (s
 single-answers told Gives Refuses one apart refused t u (Err e) (Ok b) (s, x) (s', y) = inr (inl (apart b e y x))
 single-answers {A} told Gives Refuses one apart refused t u (Err e) (Err f) (s, x) (s', y) = by (refused e f x y)
   where
-    by : AgreeRefusals e f → Agree {A} t (Err e) u (Err f)
+    by : AgreeRefusals e f → Agree {A = A} t (Err e) u (Err f)
     by (inl same) = inl (s ∙ sym s', ap (λ (z : Refusal). Err z) same)
     by (inr free) = inr free
 
@@ -159,7 +160,7 @@ single-read told who name known t u (Err e) (Ok b) (s, x) (s', y) = by (read-ref
     by (inr (same, long)) = absurd (not-longer (told name) b known y.0 y.1 long)
 single-read told who name known t u (Err e) (Err f) (s, x) (s', y) = by (read-refusal who (told name) e x) (read-refusal who (told name) f y)
   where
-    by : TooLong who (told name) e → TooLong who (told name) f → Agree {List ℕ} t (Err e) u (Err f)
+    by : TooLong who (told name) e → TooLong who (told name) f → Agree {A = List ℕ} t (Err e) u (Err f)
     by (inl free) other = inr (inl free)
     by (inr same) (inl free) = inr (inr free)
     by (inr (same, _)) (inr (equal, _)) = inl (s ∙ sym s', ap (λ (z : Refusal). Err z) (same ∙ sym equal))
@@ -179,14 +180,15 @@ version-refusal who bytes refusal.Read h = absurd h
 version-refusal who bytes refusal.Write h = absurd h
 
 single-version_of : (told : Told) (who : Who) (bytes : List ℕ) → Single told (version_of who bytes)
-single-version_of told who bytes = single-answers told _ (GivesNone who bytes) (one-version bytes) apart refused
+single-version_of told who bytes = single-answers told (GivesVersion bytes) (GivesNone who bytes) (one-version bytes) apart refused
   where
-    apart : (v : Version) (e : Refusal) → _ → GivesNone who bytes e → IsFree e
+    apart : (v : Version) (e : Refusal) → GivesVersion bytes v → GivesNone who bytes e → IsFree e
     apart v e gives h = by (version-refusal who bytes e h)
       where
         by : Refused who bytes e → IsFree e
         by (inl free) = free
         by (inr (why, _, is)) = absurd (given-not_refused bytes v why gives is)
+
     refused : (e f : Refusal) → GivesNone who bytes e → GivesNone who bytes f → AgreeRefusals e f
     refused e f x y = by (version-refusal who bytes e x) (version-refusal who bytes f y)
       where

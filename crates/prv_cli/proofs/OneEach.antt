@@ -75,6 +75,7 @@ single-pair told before after = single-answers told (Makes before after) (MakesN
   where
     apart : (p : Pair) (e : Refusal) → Makes before after p → MakesNone before after e → IsFree e
     apart p e makes h = let none = pair-refusal before after e h in absurd (pair_not_refused before after none.0 makes.made none.2)
+
     refused : (e f : Refusal) → MakesNone before after e → MakesNone before after f → AgreeRefusals e f
     refused e f x y =
         let one = pair-refusal before after e x in
@@ -133,6 +134,7 @@ single-command told words = single-answers told (λ c. Reads c words) (ReadsNone
         by : Unread words e → IsFree e
         by (inl free) = free
         by (inr (word, _, is)) = absurd (refused_or_read Reads words word c is reads)
+
     refused : (e f : Refusal) → ReadsNone words e → ReadsNone words f → AgreeRefusals e f
     refused e f x y = by (word-refusal words e x) (word-refusal words f y)
       where

@@ -1,9 +1,9 @@
 -- The statuses under which something was shown.
 use Rattle.std.specs.Prelude.{ℕ, Bool, ◌||◌, List, if◌then◌else◌}
-use Rattle.std.specs.List.{list_any, list_all}
+use Rattle.std.specs.List.{list_any}
 use Rattle.prv_model.specs.declared.entry.Kind.{Kind}
 use Rattle.prv_model.specs.declared.entry.Entry.{Entry}
-use Rattle.prv_text.specs.Kinds.{is_same, is_different, is_empty}
+use Rattle.prv_text.specs.Kinds.{is_different, is_beyond, is_open, is_undecided}
 use Rattle.prv_cli.specs.declared.status.Status.{Status}
 use Rattle.prv_cli.specs.declared.status.Status.TheVariants.{Done, Different, Unsettled}
 
@@ -13,12 +13,12 @@ status_number Done = 0
 status_number Different = 1
 status_number Unsettled = 2
 
--- nothing is left to be found in an entry of this kind
-abbrev pub is_alike : Kind → Bool
-is_alike kind = is_same kind || is_empty kind
+-- something is left to be found in an entry of this kind
+abbrev pub is_unsettled : Kind → Bool
+is_unsettled kind = is_beyond kind || (is_open kind || is_undecided kind)
 
--- Different where an entry is, else Done where each is Same or Empty, and else Unsettled
+-- Different where an entry is, else Unsettled where one is Beyond, open or undecided, and else Done
 abbrev pub entries_status : List Entry → Status
 entries_status entries =
     if list_any (λ e. is_different e.kind) entries then Different
-    else (if list_all (λ e. is_alike e.kind) entries then Done else Unsettled)
+    else (if list_any (λ e. is_unsettled e.kind) entries then Unsettled else Done)

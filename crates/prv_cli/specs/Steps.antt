@@ -31,7 +31,6 @@ abbrev pub ◌∙∙◌ : Trace → Trace → Trace
 ◌∙∙◌ first rest = record { reads = first.reads ++ rest.reads; writes = first.writes ++ rest.writes }
 
 infixl 30 ◌∙∙◌
-
 -- a step: what it may do and answer, by what is known of the files
 abbrev pub Step : Type 0 → Type 1
 Step A = Told → Trace → Result A Refusal → Type 0

@@ -60,11 +60,11 @@ fn perform<F: Files, O: Sink>(
             let report = compare_at(alloc, files, before, after, input)?;
             write_report(out, &report)
         }
-        Command::Slice { .. }
-        | Command::Explore { .. }
-        | Command::Live { .. }
-        | Command::Resume { .. }
-        | Command::Check { .. }
-        | Command::Gen { .. } => Err(Refusal::Later),
+        Command::Slice { .. } => Err(Refusal::Later),
+        Command::Explore { .. } => Err(Refusal::Later),
+        Command::Live { .. } => Err(Refusal::Later),
+        Command::Resume { .. } => Err(Refusal::Later),
+        Command::Check { .. } => Err(Refusal::Later),
+        Command::Gen { .. } => Err(Refusal::Later),
     }
 }

@@ -83,8 +83,7 @@ fn push_pair_error(line: &mut Line, why: PairError)
 {
     match why {
         PairError::Params { before, after } => {
-            push_labelled(line, "pair: params ", before);
-            push_labelled(line, " and ", after);
+            push_two(line, "pair: params ", before, " and ", after);
         }
         PairError::MarkTwice { side, mark } => {
             line.push_str(side_str(side));
@@ -96,8 +95,7 @@ fn push_pair_error(line: &mut Line, why: PairError)
             push_labelled(line, ": mark inside mark at ", place);
         }
         PairError::Unmarked { before, after } => {
-            push_labelled(line, "pair: unmarked at ", before);
-            push_labelled(line, " and ", after);
+            push_two(line, "pair: unmarked at ", before, " and ", after);
         }
     }
 }
@@ -111,6 +109,16 @@ fn push_labelled<I: Integer>(line: &mut Line, label: &str, number: I)
     line.push_str(label);
     let mut buffer = Buffer::new();
     line.push_str(buffer.format(number));
+}
+
+/// Writes two numbers, each behind a label.
+fn push_two<I: Integer>(line: &mut Line, label: &str, first: I, link: &str, second: I)
+    requires { array_string_len line.old + length label.now + length link.now ≤ 70 }
+    ensures text { line.new.bytes ≡ line.old.bytes ++ (label.now ++ I.text first ++ link.now ++ I.text second) }
+    ensures short { array_string_len line.new ≤ array_string_len line.old + length label.now + length link.now + 80 }
+{
+    push_labelled(line, label, first);
+    push_labelled(line, link, second);
 }
 
 fn who_str(who: Who) -> &'static str

@@ -1,7 +1,6 @@
 //! What a command shows.
-ghost use Rattle.std.specs.Prelude.{◌≡◌};
+ghost use Rattle.std.specs.Prelude.{◌≡◌, [], OnOk, OnErr, IfErr};
 ghost use Rattle.std.specs.Io.KnownBytes.{append_known};
-ghost use Rattle.std.specs.Prelude.{IsErr, OnOk, OnErr};
 ghost use Rattle.prv_io.specs.Faults.{Rose};
 ghost use Rattle.prv_cli.specs.Steps.{Told, Trace, writes};
 
@@ -30,6 +29,7 @@ pub fn write_report<O: Sink>(out: &mut O, report: &Report) -> Result<Status, Ref
     ensures written { (told : Told) → (trace : Trace) × writes report.now told trace result × (trace.reads ≡ []) × (O.taken out.new ≡ append_known (O.taken out.old) trace.writes) }
     ensures fault { OnErr result (Rose (O.faults out.old) (O.faults out.new)) }
     ensures no_fault { OnOk result (O.faults out.new ≡ O.faults out.old) }
+    ensures write_alone { IfErr result (λ why. why ≡ Refusal.Write) }
 {
     match write_all(out, report.text.as_slice()) {
         Ok(()) => Ok(report.status),

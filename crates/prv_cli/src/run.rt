@@ -42,5 +42,8 @@ fn show_run(alloc: Global, program: &Program, input: &Input) -> Result<Report, R
 {
     let outcome = run(alloc, program, input, TURNS)?;
     let text = outcome_text(alloc, &outcome)?;
-    Ok(Report { text, status: Status::Done })
+    Ok(Report {
+        text,
+        status: Status::Done,
+    })
 }

@@ -1,7 +1,8 @@
 //! The statuses under which something was shown.
 ghost use Rattle.std.specs.Prelude.{◌≡◌};
+ghost use Rattle.std.specs.List.{list_any};
 ghost use Rattle.prv_text.specs.Kinds.{is_different as kind_is_different};
-ghost use Rattle.prv_cli.specs.Statuses.{status_number, is_alike as kind_is_alike, entries_status as status_is};
+ghost use Rattle.prv_cli.specs.Statuses.{status_number, is_unsettled as kind_is_unsettled, entries_status as status_is};
 
 use prv_model::{Entry, Kind};
 
@@ -12,7 +13,7 @@ pub enum Status {
     Done,
     /// An entry is Different.
     Different,
-    /// No entry is Different, and one is neither Same nor Empty.
+    /// No entry is Different, and one is Beyond, open or undecided.
     Unsettled,
 }
 
@@ -33,13 +34,25 @@ impl Status {
 pub fn entries_status(entries: &[Entry]) -> Status
     ensures { result ≡ status_is entries.now }
 {
-    if entries.iter().any(|entry| is_different(&entry.kind)) {
+    if has_different(entries) {
         Status::Different
-    } else if entries.iter().all(|entry| is_alike(&entry.kind)) {
-        Status::Done
-    } else {
+    } else if has_unsettled(entries) {
         Status::Unsettled
+    } else {
+        Status::Done
     }
+}
+
+fn has_different(entries: &[Entry]) -> bool
+    ensures { result ≡ list_any (λ e. kind_is_different e.kind) entries.now }
+{
+    entries.iter().any(|entry| is_different(&entry.kind))
+}
+
+fn has_unsettled(entries: &[Entry]) -> bool
+    ensures { result ≡ list_any (λ e. kind_is_unsettled e.kind) entries.now }
+{
+    entries.iter().any(|entry| is_unsettled(&entry.kind))
 }
 
 fn is_different(kind: &Kind) -> bool
@@ -48,9 +61,12 @@ fn is_different(kind: &Kind) -> bool
     matches!(kind, Kind::Different { sample: _ })
 }
 
-/// Whether nothing is left to be found in an entry of this kind.
-fn is_alike(kind: &Kind) -> bool
-    ensures { result ≡ kind_is_alike kind.now }
+/// Whether something is left to be found in an entry of this kind.
+fn is_unsettled(kind: &Kind) -> bool
+    ensures { result ≡ kind_is_unsettled kind.now }
 {
-    matches!(kind, Kind::Same | Kind::Empty)
+    match kind {
+        Kind::Same | Kind::Different { sample: _ } | Kind::Empty => false,
+        Kind::Beyond | Kind::Unexplored | Kind::Undecided { reason: _ } => true,
+    }
 }

@@ -21,11 +21,7 @@ fn names(rt: &HostRuntime) -> Result<Vec<Name>, Fail> {
 }
 
 fn op(rt: &HostRuntime, a: Term, op: TermOp, b: Term) -> Result<Term, Fail> {
-    Ok(Term::Op(
-        op,
-        Boxed::new(rt.alloc(), a)?,
-        Boxed::new(rt.alloc(), b)?,
-    ))
+    Ok(Term::Op(op, Boxed::new(rt.alloc(), a)?, Boxed::new(rt.alloc(), b)?))
 }
 
 fn pick(rt: &HostRuntime, test: Term, chosen: Term, other: Term) -> Result<Term, Fail> {
@@ -113,7 +109,13 @@ fn reports(rt: HostRuntime) -> Result<(), Fail> {
         entry(&rt, 9, Kind::Unexplored, &[1], 33)?,
         undecided(&rt, 10, Reason::Lines { budget: 2000 })?,
         undecided(&rt, 11, Reason::Numbers { lines: 31 })?,
-        undecided(&rt, 12, Reason::Clauses { count: 5_000_000_000 })?,
+        undecided(
+            &rt,
+            12,
+            Reason::Clauses {
+                count: 5_000_000_000
+            }
+        )?,
         undecided(&rt, 13, Reason::Wide)?,
         undecided(&rt, 4294967295, Reason::Literals)?,
     ]?;
