@@ -7,3 +7,4 @@ pub mod Logs
 pub mod Preparation
 pub mod Indexing
 pub mod Freshness
+pub mod Spending
