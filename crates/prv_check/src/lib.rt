@@ -6,6 +6,7 @@
 mod checker;
 mod containment;
 mod fault;
+mod flags;
 mod fresh;
 mod index;
 mod known;
@@ -14,7 +15,9 @@ mod lean;
 mod line;
 mod log;
 mod marks;
+mod place;
 mod propagate;
+mod signature;
 #[cfg(test)]
 mod tests;
 mod work;
