@@ -3,14 +3,15 @@ use Rattle.std.proofs.Common.{◌≡◌, ℕ, suc, zero, ◌+◌, ◌-◌, ◌<�
 use Rattle.std.specs.Prelude.{nat_eq, nat_lt, if◌then◌else◌}
 use Rattle.std.specs.List.{All, list_any, list_all}
 use Rattle.std.proofs.lemmas.Bool.{or_cases, or_left, or_right, and_parts, and_from, cases_eq, ltb-true, lt-ltb, eqb-true, eq-eqb, ne_eqb, true≢false, false_from_ne_true}
-use Rattle.std.proofs.lemmas.List.Folds.{Any-from_list_any, list_any_at}
+use Rattle.std.proofs.lemmas.List.{get_or_default}
+use Rattle.std.proofs.lemmas.List.Folds.{Any-from_list_any}
 use Rattle.prv_check.specs.Spending.{are_distinct}
 
-not_false : (b : Bool) → not b ≡ true → b ≡ false
+pub not_false : (b : Bool) → not b ≡ true → b ≡ false
 not_false false h = refl
 not_false true h = absurd cc
 
-not_from : (b : Bool) → (b ≡ true → ⊥) → not b ≡ true
+pub not_from : (b : Bool) → (b ≡ true → ⊥) → not b ≡ true
 not_from false h = refl
 not_from true h = absurd (h refl)
 
@@ -22,36 +23,36 @@ without m (x ∷ xs) = if nat_eq m x then xs else x ∷ without m xs
 length_without : (m : ℕ) (xs : List ℕ) → length xs ≤ suc (length (without m xs))
 unfolding without
 length_without m [] = omega arith
-length_without m (x ∷ xs) = by (nat_eq m x)
+length_without m (x ∷ xs) = by (nat_eq m x) (length_without m xs)
   where
-    by : (b : Bool) → length (x ∷ xs) ≤ suc (length (if b then xs else x ∷ without m xs))
-    by true = omega arith
-    by false = omega (arith, length_without m xs)
+    by : (b : Bool) → length xs ≤ suc (length (without m xs)) → length (x ∷ xs) ≤ suc (length (if b then xs else x ∷ without m xs))
+    by true rest = omega arith
+    by false rest = omega arith
 
 any_without : (p : ℕ → Bool) (m : ℕ) (xs : List ℕ) → list_any p (without m xs) ≡ true → list_any p xs ≡ true
 unfolding without
 any_without p m [] here = here
-any_without p m (x ∷ xs) here = by (nat_eq m x) here
+any_without p m (x ∷ xs) here = by (nat_eq m x) (any_without p m xs) here
   where
-    by : (b : Bool) → list_any p (if b then xs else x ∷ without m xs) ≡ true → list_any p (x ∷ xs) ≡ true
-    by true there = or_right (p x) (list_any p xs) there
-    by false there = elim (or_cases (p x) (list_any p (without m xs)) there) [
+    by : (b : Bool) → (list_any p (without m xs) ≡ true → list_any p xs ≡ true) → list_any p (if b then xs else x ∷ without m xs) ≡ true → list_any p (x ∷ xs) ≡ true
+    by true rest there = or_right (p x) (list_any p xs) there
+    by false rest there = elim (or_cases (p x) (list_any p (without m xs)) there) [
       | inl first ↦ or_left (p x) (list_any p xs) first
-      | inr later ↦ or_right (p x) (list_any p xs) (any_without p m xs later)
+      | inr later ↦ or_right (p x) (list_any p xs) (rest later)
     ]
 
 distinct_without : (m : ℕ) (xs : List ℕ) → are_distinct xs ≡ true → are_distinct (without m xs) ≡ true
 unfolding without
 distinct_without m [] distinct = refl
-distinct_without m (x ∷ xs) distinct = by (nat_eq m x)
+distinct_without m (x ∷ xs) distinct = by (nat_eq m x) (distinct_without m xs)
   where
-    by : (b : Bool) → are_distinct (if b then xs else x ∷ without m xs) ≡ true
-    by true = (and_parts (not (list_any (nat_eq x) xs)) (are_distinct xs) distinct).1
-    by false =
+    by : (b : Bool) → (are_distinct xs ≡ true → are_distinct (without m xs) ≡ true) → are_distinct (if b then xs else x ∷ without m xs) ≡ true
+    by true rest = (and_parts (not (list_any (nat_eq x) xs)) (are_distinct xs) distinct).1
+    by false rest =
         let parts = and_parts (not (list_any (nat_eq x) xs)) (are_distinct xs) distinct in
         and_from (not (list_any (nat_eq x) (without m xs))) (are_distinct (without m xs))
         (not_from (list_any (nat_eq x) (without m xs)) (λ here. true≢false (sym (any_without (nat_eq x) m xs here) ∙ not_false (list_any (nat_eq x) xs) parts.0)))
-        (distinct_without m xs parts.1)
+        (rest parts.1)
 
 -- numbers up to m that aren't m are below it
 below_without : (m : ℕ) (xs : List ℕ) → list_all (λ x. nat_lt x (suc m)) xs ≡ true → list_any (nat_eq m) xs ≡ false → list_all (λ x. nat_lt x m) xs ≡ true
@@ -70,21 +71,21 @@ below_without m (x ∷ xs) all none =
 all_without : (m : ℕ) (xs : List ℕ) → list_all (λ x. nat_lt x (suc m)) xs ≡ true → are_distinct xs ≡ true → list_all (λ x. nat_lt x m) (without m xs) ≡ true
 unfolding without
 all_without m [] all distinct = refl
-all_without m (x ∷ xs) all distinct = by (nat_eq m x) refl
+all_without m (x ∷ xs) all distinct = by (nat_eq m x) refl (all_without m xs)
   where
-    by : (b : Bool) → nat_eq m x ≡ b → list_all (λ x. nat_lt x m) (if b then xs else x ∷ without m xs) ≡ true
-    by true same =
+    by : (b : Bool) → nat_eq m x ≡ b → (list_all (λ x. nat_lt x (suc m)) xs ≡ true → are_distinct xs ≡ true → list_all (λ x. nat_lt x m) (without m xs) ≡ true) → list_all (λ x. nat_lt x m) (if b then xs else x ∷ without m xs) ≡ true
+    by true same rest =
         let e : m ≡ x = eqb-true m x same in
         let parts = and_parts (not (list_any (nat_eq x) xs)) (are_distinct xs) distinct in
         let tail = and_parts (nat_lt x (suc m)) (list_all (λ x. nat_lt x (suc m)) xs) all in
         below_without m xs tail.1 (rw e (not_false (list_any (nat_eq x) xs) parts.0))
-    by false other =
+    by false other rest =
         let parts = and_parts (not (list_any (nat_eq x) xs)) (are_distinct xs) distinct in
         let tail = and_parts (nat_lt x (suc m)) (list_all (λ x. nat_lt x (suc m)) xs) all in
         let low : x < suc m = ltb-true x (suc m) tail.0 in
         let unlike : m ≡ x → ⊥ = λ e. true≢false (sym (eq-eqb m x e) ∙ other) in
         and_from (nat_lt x m) (list_all (λ x. nat_lt x m) (without m xs))
-        (lt-ltb x m (omega arith)) (all_without m xs tail.1 parts.1)
+        (lt-ltb x m (omega arith)) (rest tail.1 parts.1)
 
 -- numbers below n, pairwise different, are at most n
 pub distinct_short : (n : ℕ) (xs : List ℕ) → list_all (λ x. nat_lt x n) xs ≡ true → are_distinct xs ≡ true → length xs ≤ n
@@ -101,5 +102,6 @@ distinct_from_pairs [] pairs = refl
 distinct_from_pairs (x ∷ xs) pairs =
     and_from (not (list_any (nat_eq x) xs)) (are_distinct xs)
     (not_from (list_any (nat_eq x) xs) (λ here.
-      let (j, y, inside, at_j, same) = Any-from_list_any (nat_eq x) xs here in ?))
+      let (j, y, inside, at_j, same) = Any-from_list_any (nat_eq x) xs here in
+      pairs 0 (suc j) (omega arith) (omega arith) (eqb-true x y same ∙ sym at_j ∙ get_or_default xs j y 0 inside)))
     (distinct_from_pairs xs (λ i j less inside same. pairs (suc i) (suc j) (omega arith) (omega arith) same))

@@ -7,3 +7,6 @@ pub mod Falsifying
 pub mod Ending
 pub mod Leaning
 pub mod Passing
+pub mod Counting
+pub mod Coding
+pub mod Spending

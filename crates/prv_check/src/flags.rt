@@ -1,5 +1,5 @@
 //! Rows of flags that are all taken back in one step.
-ghost use Rattle.std.specs.Prelude.{◌≡◌, ◌<◌, length, replicate, slice_index_or, slice_set, false, true, IfOk};
+ghost use Rattle.std.specs.Prelude.{◌≡◌, ◌<◌, map, nat_eq, length, replicate, slice_index_or, slice_set, false, true, IfOk};
 
 use std::alloc::{AllocError, Global};
 use std::marker::Model;
@@ -44,6 +44,13 @@ impl Flags {
         ensures { result ≡ slice_index_or self.now at false }
     {
         at < self.rounds.len() && self.rounds[at] == self.round
+    }
+
+    /// The rounds in which the flags were set, and the round that counts.
+    pub fn rounds(&self) -> (&[u32], u32)
+        ensures { map (nat_eq result.1) result.0.now ≡ self.now }
+    {
+        (self.rounds.as_slice(), self.round)
     }
 
     /// Sets the flag at this place.

@@ -25,6 +25,6 @@ mod work;
 pub use checker::check;
 pub use fault::{CheckError, LineWhy};
 pub use fresh::check_fresh;
-pub use law::accepted_has_no_model;
+pub use law::{accepted_has_no_model, ample_budget_is_not_spent};
 pub use log::{Line, Log};
 pub use work::{Work, check_line, prepare};

@@ -1,7 +1,7 @@
 //! The literals that are true while a line is tested: a trail in the order in which they were made
 //! true, and beside it a table of the literals that they make false, so that each test of a literal is
 //! one look into the table.
-ghost use Rattle.std.specs.Prelude.{◌≡◌, ◌<◌, ◌≤◌, ◌++◌, ◌∷◌, ◌+◌, ◌*◌, [], length, IfOk};
+ghost use Rattle.std.specs.Prelude.{◌≡◌, ◌<◌, ◌≤◌, ◌++◌, ◌∷◌, ◌+◌, ◌*◌, [], length, map, nat_eq, IfOk};
 ghost use Rattle.prv_cnf.specs.Literals.{variable, negate, same_literal, has_literal};
 ghost use Rattle.prv_check.specs.Propagation.{is_false};
 ghost use Rattle.prv_check.specs.Inner.Marking.{AreFalse};
@@ -59,11 +59,12 @@ impl Marks {
         self.trail.as_slice()
     }
 
-    /// The table of the false literals.
-    pub fn falses(&self) -> &Flags
-        ensures { AreFalse result.now self.now.trail }
+    /// The table of the false literals: the rounds in which they were made false, and the round that
+    /// counts.
+    pub fn falses(&self) -> (&[u32], u32)
+        ensures { AreFalse (map (nat_eq result.1) result.0.now) self.now.trail }
     {
-        &self.falses
+        self.falses.rounds()
     }
 
     /// Whether the trail has the literal, which is of one of the variables.
@@ -112,21 +113,23 @@ impl Marks {
     }
 }
 
-/// Whether the trail makes the literal false: by the table of false literals, or by a look through the
-/// trail where the table has no place for it.
-pub fn is_false(falses: &Flags, trail: &[Lit], lit: Lit) -> bool
-    requires { AreFalse falses.now trail.now }
+/// Whether the trail makes the literal false: by the table of the rounds in which literals were made
+/// false, or by a look through the trail where the table has no place for it.
+pub fn is_false(rounds: &[u32], round: u32, trail: &[Lit], lit: Lit) -> bool
+    requires { AreFalse (map (nat_eq round) rounds.now) trail.now }
     ensures { result ≡ is_false trail.now lit }
 {
     let at = place(lit);
-    if at < falses.len() {
-        falses.has(at)
+    if at < rounds.len() {
+        rounds[at] == round
     } else {
         has_negation(trail, lit)
     }
 }
 
 /// Whether the literal's negation is among the literals.
+#[cold]
+#[inline(never)]
 pub fn has_negation(lits: &[Lit], lit: Lit) -> bool
     ensures { result ≡ has_literal lits.now (negate lit) }
 {

@@ -1,5 +1,5 @@
 //! Unit propagation along the hints of a line.
-ghost use Rattle.std.specs.Prelude.{◌≡◌, ◌+◌, ◌≤◌, length, nat_lt, false, not, IsTrue, MatchOption};
+ghost use Rattle.std.specs.Prelude.{◌≡◌, ◌+◌, ◌≤◌, length, map, nat_eq, nat_lt, false, not, IsTrue, MatchOption};
 ghost use Rattle.std.specs.List.{list_all};
 ghost use Rattle.prv_cnf.specs.Literals.{same_literal};
 ghost use Rattle.prv_check.specs.Propagation.{is_false, unit_literal, hints_fault, trail_after};
@@ -7,20 +7,20 @@ ghost use Rattle.prv_check.specs.Lines.{known, clauses_at};
 ghost use Rattle.prv_check.specs.Inner.Marking.{AreFalse};
 
 use crate::fault::LineWhy;
-use crate::flags::Flags;
 use crate::known::clause_at;
 use crate::log::Line;
 use crate::marks::{Marks, is_false};
 use prv_cnf::{Cnf, Lit};
 
 /// The one literal of a clause that isn't false, if there is one.
-fn unit_of(falses: &Flags, trail: &[Lit], lits: &[Lit]) -> Option<Lit>
-    requires { AreFalse falses.now trail.now }
+#[inline(never)]
+fn unit_of(rounds: &[u32], round: u32, trail: &[Lit], lits: &[Lit]) -> Option<Lit>
+    requires { AreFalse (map (nat_eq round) rounds.now) trail.now }
     ensures { result ≡ unit_literal trail.now lits.now }
 {
     let mut found = None;
     for lit in lits {
-        if !is_false(falses, trail, *lit) {
+        if !is_false(rounds, round, trail, *lit) {
             if is_other(found, *lit) {
                 return None;
             }
@@ -41,12 +41,12 @@ fn is_other(found: Option<Lit>, lit: Lit) -> bool
 }
 
 /// Whether each literal of a clause is false.
-fn all_false(falses: &Flags, trail: &[Lit], lits: &[Lit]) -> bool
-    requires { AreFalse falses.now trail.now }
+fn all_false(rounds: &[u32], round: u32, trail: &[Lit], lits: &[Lit]) -> bool
+    requires { AreFalse (map (nat_eq round) rounds.now) trail.now }
     ensures { result ≡ list_all (is_false trail.now) lits.now }
 {
     for lit in lits {
-        if !is_false(falses, trail, *lit) {
+        if !is_false(rounds, round, trail, *lit) {
             return false;
         }
     }
@@ -65,13 +65,15 @@ pub fn propagate(cnf: &Cnf, earlier: &[Line], hints: &[u32], marks: &mut Marks) 
     };
     for hint in others {
         let clause = clause_at(cnf, earlier, *hint as usize);
-        match unit_of(marks.falses(), marks.trail(), clause) {
+        let (rounds, round) = marks.falses();
+        match unit_of(rounds, round, marks.trail(), clause) {
             None => return Some(LineWhy::NotUnit),
             Some(lit) => marks.add(lit),
         }
     }
     let clause = clause_at(cnf, earlier, *last as usize);
-    if all_false(marks.falses(), marks.trail(), clause) {
+    let (rounds, round) = marks.falses();
+    if all_false(rounds, round, marks.trail(), clause) {
         None
     } else {
         Some(LineWhy::NotFalse)
