@@ -80,10 +80,12 @@ digit_tells a b l here gone same = by (two_signs l.0 l refl)
     one true q e = refl
     one false true e = absurd (omega arith)
     one false false e = absurd (omega arith)
+
     two : (p q : Bool) → sign p q ≡ 2 → q ≡ true
     two true q e = absurd (omega arith)
     two false true e = refl
     two false false e = absurd (omega arith)
+
     by : (l ≡ positive (variable l)) ⊎ (l ≡ negate (positive (variable l))) → has_literal b l ≡ true
     by (inl up) =
         let k : ℕ = variable l in
@@ -111,6 +113,7 @@ same_code n a b within plain same = go a (λ l here. here)
         let parts = and_parts (nat_lt 0 (variable l)) (nat_le (variable l) n) (all-has_literal (is_within n) a l within here) in
         digit_tells a b l here (any_false (λ x. has_literal a (negate x)) a l plain here)
         (same_digits n a b same (variable l) (ltb-true 0 (variable l) parts.0) (leb-true (variable l) n parts.1))
+
     go : (xs : List Lit) → ((l : Lit) → has_literal xs l ≡ true → has_literal a l ≡ true) → contains_clause b xs ≡ true
     go [] some = refl
     go (x ∷ xs) some =
@@ -137,6 +140,7 @@ one_variable l m e = by (two_signs l.0 l refl) (two_signs m.0 m refl)
   where
     up : positive (variable l) ≡ positive (variable m)
     up = ap positive e
+
     by : (l ≡ positive (variable l)) ⊎ (l ≡ negate (positive (variable l))) → (m ≡ positive (variable m)) ⊎ (m ≡ negate (positive (variable m))) → (m ≡ l) ⊎ (m ≡ negate l)
     by (inl a) (inl b) = inl (b ∙ sym up ∙ sym a)
     by (inl a) (inr b) = inr (b ∙ ap negate (sym up ∙ sym a))

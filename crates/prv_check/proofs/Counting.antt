@@ -1,10 +1,10 @@
 -- Numbers that are pairwise different and below a bound: how many there can be.
-use Rattle.std.proofs.Common.{◌≡◌, ℕ, suc, zero, ◌+◌, ◌-◌, ◌<◌, ◌≤◌, Bool, true, false, not, ◌&&◌, List, [], ◌∷◌, map, length, get_or, refl, sym, ap, ◌∙◌, inl, inr, arith}
+use Rattle.std.proofs.Common.{◌≡◌, ℕ, suc, zero, ◌+◌, ◌-◌, ◌<◌, ◌≤◌, Bool, true, false, not, ◌&&◌, ◌||◌, List, [], ◌∷◌, ◌++◌, map, length, take, get_or, refl, sym, ap, ◌∙◌, inl, inr, arith}
 use Rattle.std.specs.Prelude.{nat_eq, nat_lt, if◌then◌else◌}
 use Rattle.std.specs.List.{All, list_any, list_all}
 use Rattle.std.proofs.lemmas.Bool.{or_cases, or_left, or_right, and_parts, and_from, cases_eq, ltb-true, lt-ltb, eqb-true, eq-eqb, ne_eqb, true≢false, false_from_ne_true}
 use Rattle.std.proofs.lemmas.List.{get_or_default}
-use Rattle.std.proofs.lemmas.List.Folds.{Any-from_list_any}
+use Rattle.std.proofs.lemmas.List.Folds.{Any-from_list_any, list_any_at, list_any-append}
 use Rattle.prv_check.specs.Spending.{are_distinct}
 
 pub not_false : (b : Bool) → not b ≡ true → b ≡ false
@@ -102,6 +102,40 @@ distinct_from_pairs [] pairs = refl
 distinct_from_pairs (x ∷ xs) pairs =
     and_from (not (list_any (nat_eq x) xs)) (are_distinct xs)
     (not_from (list_any (nat_eq x) xs) (λ here.
-      let (j, y, inside, at_j, same) = Any-from_list_any (nat_eq x) xs here in
-      pairs 0 (suc j) (omega arith) (omega arith) (eqb-true x y same ∙ sym at_j ∙ get_or_default xs j y 0 inside)))
+    let (j, y, inside, at_j, same) = Any-from_list_any (nat_eq x) xs here in
+    pairs 0 (suc j) (omega arith) (omega arith) (eqb-true x y same ∙ sym at_j ∙ get_or_default xs j y 0 inside)))
     (distinct_from_pairs xs (λ i j less inside same. pairs (suc i) (suc j) (omega arith) (omega arith) same))
+
+-- a number more at the end
+pub distinct_more : (xs : List ℕ) (x : ℕ) → are_distinct xs ≡ true → list_any (nat_eq x) xs ≡ false → are_distinct (xs ++ x ∷ []) ≡ true
+distinct_more [] x distinct none = refl
+distinct_more (y ∷ ys) x distinct none =
+    let parts = and_parts (not (list_any (nat_eq y) ys)) (are_distinct ys) distinct in
+    let other : nat_eq x y ≡ true → ⊥ = λ same. true≢false (sym (or_left (nat_eq x y) (list_any (nat_eq x) ys) same) ∙ none) in
+    let rest : list_any (nat_eq x) ys ≡ false = false_from_ne_true (list_any (nat_eq x) ys) (λ here. true≢false (sym (or_right (nat_eq x y) (list_any (nat_eq x) ys) here) ∙ none)) in
+    let alone : list_any (nat_eq y) (ys ++ x ∷ []) ≡ true → ⊥ = λ here.
+    elim (or_cases (list_any (nat_eq y) ys) (nat_eq y x || false) (sym (list_any-append (nat_eq y) ys (x ∷ [])) ∙ here)) [
+      | inl before ↦ true≢false (sym before ∙ not_false (list_any (nat_eq y) ys) parts.0)
+      | inr last ↦ elim (or_cases (nat_eq y x) false last) [
+        | inl same ↦ other (eq-eqb x y (sym (eqb-true y x same)))
+        | inr nothing ↦ true≢false (sym nothing)
+      ]
+    ] in
+    and_from (not (list_any (nat_eq y) (ys ++ x ∷ []))) (are_distinct (ys ++ x ∷ []))
+    (not_from (list_any (nat_eq y) (ys ++ x ∷ [])) alone) (distinct_more ys x parts.1 rest)
+
+-- a number that stands before its place
+pub repeated_at : (xs : List ℕ) (i : ℕ) → i < length xs → list_any (nat_eq (get_or xs i 0)) (take i xs) ≡ true → are_distinct xs ≡ false
+repeated_at [] i inside here = absurd (omega arith)
+repeated_at (x ∷ xs) zero inside here = absurd cc
+repeated_at (x ∷ xs) (suc i) inside here =
+    elim (or_cases (nat_eq (get_or xs i 0) x) (list_any (nat_eq (get_or xs i 0)) (take i xs)) here) [
+      | inl first ↦
+          let stands : list_any (nat_eq x) xs ≡ true = list_any_at (nat_eq x) xs i 0 (omega arith) (eq-eqb x (get_or xs i 0) (sym (eqb-true (get_or xs i 0) x first))) in
+          rw stands refl
+      | inr later ↦ rw (repeated_at xs i (omega arith) later) (and_nothing (not (list_any (nat_eq x) xs)))
+    ]
+  where
+    and_nothing : (b : Bool) → (b && false) ≡ false
+    and_nothing true = refl
+    and_nothing false = refl

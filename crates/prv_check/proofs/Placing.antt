@@ -67,12 +67,15 @@ pub map-replicate : {A B : Type 0} (f : A → B) (n : ℕ) (x : A) → map f (re
 map-replicate f zero x = refl
 map-replicate f (suc n) x = rw (map-replicate f n x) refl
 
-pub nothing_flagged : (n : ℕ) (l : Lit) → flag (replicate n false) l ≡ false
-nothing_flagged n l =
-    elim (cases_lt (place_of l) n) [
-      | inl inside ↦ get_or-replicate n (place_of l) false false inside
+pub nothing_set : (n k : ℕ) → get_or (replicate n false) k false ≡ false
+nothing_set n k =
+    elim (cases_lt k n) [
+      | inl inside ↦ get_or-replicate n k false false inside
       | inr past ↦ get_or-eq_default (replicate n false) false (rw length-replicate past)
     ]
+
+pub nothing_flagged : (n : ℕ) (l : Lit) → flag (replicate n false) l ≡ false
+nothing_flagged n l = nothing_set n (place_of l)
 
 or_true : (b : Bool) → (b || true) ≡ true
 or_true true = refl

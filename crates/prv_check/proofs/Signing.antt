@@ -40,7 +40,7 @@ halves a b c above =
 assoc_below : (k a b c : ℕ) → a < 2 ^ k → bit_or (bit_or a b) c ≡ bit_or a (bit_or b c)
 assoc_below zero zero b c small = refl
 assoc_below zero (suc a) b c small = absurd (omega arith)
-assoc_below (suc k) a b c small = 
+assoc_below (suc k) a b c small =
     let bound : a < 2 ^ (k + 1) = rw add-one small in
     halves a b c (assoc_below k (a / 2) (b / 2) (c / 2) (shr_below a k 1 bound))
 

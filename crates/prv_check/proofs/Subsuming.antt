@@ -174,6 +174,7 @@ index_under cs c w old index here room = record {
   where
     new : Listing
     new = record old { lists = listed_under w (last_entry cs c) old }
+
     entries : (p : ℕ) → list_all (is_entry (cs ++ c ∷ [])) (slice_index_or (listed_under w (last_entry cs c) old) p []) ≡ true
     entries p =
         let before = entries_more cs c (slice_index_or old.lists p []) (index.entries p) in
@@ -182,16 +183,19 @@ index_under cs c w old index here room = record {
           | inr (e, same) ↦ rw (e, list_all-append)
               (and_from (list_all (is_entry (cs ++ c ∷ [])) (slice_index_or old.lists p [])) _ before (and_from _ true (last_is_entry cs c) refl))
         ]
+
     listed : (p k : ℕ) → list_any (λ e. nat_eq k e.number) (slice_index_or old.lists p []) ≡ true → list_any (λ e. nat_eq k e.number) (slice_index_or (listed_under w (last_entry cs c) old) p []) ≡ true
     listed p k found =
         elim (list_under w (last_entry cs c) old p room) [
           | inl (e, other) ↦ rw e found
           | inr (e, same) ↦ rw (e, list_any-append) (or_left (list_any (λ e. nat_eq k e.number) (slice_index_or old.lists p [])) _ found)
         ]
+
     kept : (d : List Lit) (k : ℕ) → IsFound old d k → IsFound new d k
     kept d k (inl missing) = inl missing
     kept d k (inr (inl empty)) = inr (inl empty)
     kept d k (inr (inr (u, stands, found))) = inr (inr (u, stands, listed (place_of u) k found))
+
     last : IsFound new c (length cs)
     last =
         inr

@@ -5,4 +5,5 @@ pub mod Logs
 pub mod Preparation
 pub mod Freshness
 pub mod Spending
+pub mod NextLines
 pub mod Inner

@@ -13,19 +13,14 @@ use crate::known::clause_at;
 use crate::log::Line;
 use crate::marks::{Marks, has_negation};
 use crate::place::{all_flagged, flag_all, place};
+use crate::slices::after;
 use prv_cnf::{Cnf, Lit};
 use sqlite_items::at as at_place;
 
 /// Whether each literal of a line that follows stands in one of its hints, and each literal that a
 /// hint before the last made true has its negation in a later hint. The trail is that after the test
 /// of the line.
-pub fn is_lean(
-    cnf: &Cnf,
-    earlier: &[Line],
-    line: &Line,
-    marks: &Marks,
-    seen: &mut Flags,
-) -> bool
+pub fn is_lean(cnf: &Cnf, earlier: &[Line], line: &Line, marks: &Marks, seen: &mut Flags) -> bool
     requires known { IsTrue (list_all (λ n. nat_lt n (length (known cnf.now earlier.now))) line.now.hints) }
     requires within { IsTrue (list_all (is_within cnf.now.vars) line.now.clause) }
     requires follows { hints_fault (map negate line.now.clause) (clauses_at (known cnf.now earlier.now) line.now.hints) ≡ None }
@@ -43,13 +38,7 @@ pub fn is_lean(
 
 /// Whether each of the literals, that the hints made true in turn, has its negation in a later hint.
 /// Then the table has all literals of the hints, of those that have a place in it.
-fn have_use(
-    cnf: &Cnf,
-    earlier: &[Line],
-    hints: &[u32],
-    units: &[Lit],
-    seen: &mut Flags,
-) -> bool
+fn have_use(cnf: &Cnf, earlier: &[Line], hints: &[u32], units: &[Lit], seen: &mut Flags) -> bool
     requires known { IsTrue (list_all (λ n. nat_lt n (length (known cnf.now earlier.now))) hints.now) }
     requires table { length seen.old ≡ 2 * cnf.now.vars + 1 }
     ensures used { result ≡ have_use units.now (clauses_at (known cnf.now earlier.now) hints.now) }
@@ -69,13 +58,7 @@ fn have_use(
 
 /// Whether the negation of the literal, if there is one, stands in one of the later hints: by the
 /// table of their literals, or by a look through them where it has no place there.
-fn has_use(
-    cnf: &Cnf,
-    earlier: &[Line],
-    later: &[u32],
-    unit: Option<Lit>,
-    seen: &Flags,
-) -> bool
+fn has_use(cnf: &Cnf, earlier: &[Line], later: &[u32], unit: Option<Lit>, seen: &Flags) -> bool
     requires known { IsTrue (list_all (λ n. nat_lt n (length (known cnf.now earlier.now))) later.now) }
     requires table { length seen.now ≡ 2 * cnf.now.vars + 1 }
     requires seen { (x : Lit) → place_of x < length seen.now → flag seen.now x ≡ stands_in (clauses_at (known cnf.now earlier.now) later.now) x }
@@ -111,12 +94,4 @@ fn unit_at(units: &[Lit], at: usize) -> Option<Lit>
     ensures { result ≡ slice_get units.now at }
 {
     at_place(units, at).copied()
-}
-
-/// The items after so many.
-fn after<T>(items: &[T], count: usize) -> &[T]
-    requires { count ≤ length items.now }
-    ensures { result.now ≡ drop count items.now }
-{
-    &items[count..]
 }

@@ -1,8 +1,8 @@
 //! Unit propagation along the hints of a line.
-ghost use Rattle.std.specs.Prelude.{◌≡◌, ◌+◌, ◌≤◌, length, map, nat_eq, nat_lt, false, not, IsTrue, MatchOption};
+ghost use Rattle.std.specs.Prelude.{◌≡◌, ◌+◌, ◌≤◌, length, map, nat_eq, nat_lt, IsTrue};
 ghost use Rattle.std.specs.List.{list_all};
 ghost use Rattle.prv_cnf.specs.Literals.{same_literal};
-ghost use Rattle.prv_check.specs.Propagation.{is_false, unit_literal, hints_fault, trail_after};
+ghost use Rattle.prv_check.specs.Propagation.{is_false, unfalsified, unit_literal, hints_fault, trail_after};
 ghost use Rattle.prv_check.specs.Lines.{known, clauses_at};
 ghost use Rattle.prv_check.specs.Inner.Marking.{AreFalse};
 
@@ -10,6 +10,7 @@ use crate::fault::LineWhy;
 use crate::known::clause_at;
 use crate::log::Line;
 use crate::marks::{Marks, is_false};
+use crate::slices::after;
 use prv_cnf::{Cnf, Lit};
 
 /// The one literal of a clause that isn't false, if there is one.
@@ -18,26 +19,29 @@ fn unit_of(rounds: &[u32], round: u32, trail: &[Lit], lits: &[Lit]) -> Option<Li
     requires { AreFalse (map (nat_eq round) rounds.now) trail.now }
     ensures { result ≡ unit_literal trail.now lits.now }
 {
-    let mut found = None;
-    for lit in lits {
+    for (at, lit) in lits.iter().enumerate() {
         if !is_false(rounds, round, trail, *lit) {
-            if is_other(found, *lit) {
-                return None;
-            }
-            found = Some(*lit);
+            return if others_false(rounds, round, trail, after(lits, at + 1), *lit) {
+                Some(*lit)
+            } else {
+                None
+            };
         }
     }
-    found
+    None
 }
 
-/// Whether a literal was found that isn't this one.
-fn is_other(found: Option<Lit>, lit: Lit) -> bool
-    ensures { MatchOption found (result ≡ false) (λ l. result ≡ not (same_literal l lit)) }
+/// Whether each of the literals is false, or this one.
+fn others_false(rounds: &[u32], round: u32, trail: &[Lit], lits: &[Lit], unit: Lit) -> bool
+    requires { AreFalse (map (nat_eq round) rounds.now) trail.now }
+    ensures { result ≡ list_all (same_literal unit) (unfalsified trail.now lits.now) }
 {
-    match found {
-        None => false,
-        Some(other) => other.0 != lit.0,
+    for lit in lits {
+        if !is_false(rounds, round, trail, *lit) && unit.0 != lit.0 {
+            return false;
+        }
     }
+    true
 }
 
 /// Whether each literal of a clause is false.

@@ -11,8 +11,7 @@ pub loop-line-preserved : goal.loop-line-preserved
 loop-line-preserved c =
     let new = c.flag_all.new.flags in
     let added : List Lit = c.lits.result.now in
-    let at : ℕ = c.loop-line.line-index in
-    (
+    let at : ℕ = c.loop-line.line-index in (
       c.flag_all.ensures.size ∙ c.loop-line.invariant.0,
       λ k d below. elim (cases_lt k at) [
         | inl before ↦ flagged_kept c.loop-line.occurs new (get_or c.args.lines.now k d).clause added c.flag_all.ensures.size c.flag_all.ensures.flagged (c.loop-line.invariant.1 k d before)

@@ -16,8 +16,7 @@ use Rattle.prv_check.proofs.lean.have_use.Goals.{then-used, else-used}
 
 pub loop-at-init : goal.loop-at-init
 loop-at-init c =
-    let e : drop (length c.args.hints.now) c.args.hints.now ≡ [] = drop_all (length c.args.hints.now) c.args.hints.now (omega arith) in
-    (
+    let e : drop (length c.args.hints.now) c.args.hints.now ≡ [] = drop_all (length c.args.hints.now) c.args.hints.now (omega arith) in (
       omega arith,
       rw e (sym (use_none (drop (length c.args.hints.now) c.args.units.now))),
       λ x inside. rw (c.clear.ensures, e) (nothing_flagged (length c.args.seen.now) x),
