@@ -1,7 +1,6 @@
 -- One literal at a time, and one hint at a time.
-use Rattle.std.proofs.Common.{◌≡◌, ℕ, suc, ◌+◌, ◌<◌, Bool, true, false, not, ◌&&◌, List, [], ◌∷◌, ◌++◌, length, take, drop, get_or, Option, None, Some, refl, sym, subst, ◌∙◌, add-one, arith}
+use Rattle.std.proofs.Common.{◌≡◌, ℕ, suc, ◌+◌, ◌<◌, Bool, true, false, not, List, [], ◌∷◌, ◌++◌, length, take, drop, get_or, Option, None, Some, refl, sym, subst, ◌∙◌, add-one, arith}
 use Rattle.std.specs.Prelude.{MatchOption, slice_index_or}
-use Rattle.std.specs.List.{list_all}
 use Rattle.std.specs.Option.{option_map_or}
 use Rattle.std.proofs.lemmas.Bool.{not-true}
 use Rattle.std.proofs.lemmas.List.Elements.{filter-append}
@@ -14,24 +13,23 @@ use Rattle.std.proofs.lemmas.List.{take-append-drop}
 use Rattle.std.proofs.Math.Seq.{drop-cons}
 use Rattle.prv_check.specs.Lines.{clauses_at}
 
--- the first literal that isn't false, where those before are
-pub unfalsified_from : (trues xs : List Lit) (i : ℕ) (d : Lit) → i < length xs → is_false trues (get_or xs i d) ≡ false → unfalsified trues (take i xs) ≡ [] → unfalsified trues xs ≡ get_or xs i d ∷ unfalsified trues (drop (i + 1) xs)
-unfalsified_from trues xs i d inside here none =
-    let P : List Lit → Type 0 = λ ls. unfalsified trues ls ≡ get_or xs i d ∷ unfalsified trues (drop (i + 1) xs) in
-    subst P (take-append-drop i xs)
-    (rw (filter-append (λ l. not (is_false trues l)) (take i xs) (drop i xs), none, drop-cons xs i d inside, here, add-one) refl)
+-- what was found of a list: nothing where it is empty, else its one literal
+abbrev pub IsSole : Option Lit → List Lit → Type 0
+IsSole found ls = MatchOption found (ls ≡ []) (λ l. sole ls ≡ Some l)
 
-and_nothing : (b : Bool) → (b && false) ≡ false
-and_nothing true = refl
-and_nothing false = refl
+-- another comes
+sole_other : (ls : List Lit) (l y : Lit) (ys : List Lit) → sole ls ≡ Some l → same_literal l y ≡ false → sole (ls ++ y ∷ ys) ≡ None
+sole_other [] l y ys one other = absurd cc
+sole_other (x ∷ xs) l y ys one other = grind (arith, list_all-append (same_literal x) xs (y ∷ ys))
 
--- a literal that isn't false, and isn't this one
-pub other_unfalsified : (trues xs : List Lit) (unit : Lit) (i : ℕ) (d : Lit) → i < length xs → is_false trues (get_or xs i d) ≡ false → same_literal unit (get_or xs i d) ≡ false → list_all (same_literal unit) (unfalsified trues xs) ≡ false
-other_unfalsified trues xs unit i d inside here other =
-    let P : List Lit → Type 0 = λ ls. list_all (same_literal unit) (unfalsified trues ls) ≡ false in
+-- a second literal that isn't false settles it
+pub found_two : (trues xs : List Lit) (i : ℕ) (found : Option Lit) (d : Lit) (other : Bool) → i < length xs → is_false trues (get_or xs i d) ≡ false → IsSole found (unfalsified trues (take i xs)) → MatchOption found (other ≡ false) (λ l. other ≡ not (same_literal l (get_or xs i d))) → other ≡ true → unit_literal trues xs ≡ None
+found_two trues xs i None d other inside here found answer differs = absurd cc
+found_two trues xs i (Some l) d other inside here found answer differs =
+    let P : List Lit → Type 0 = λ ls. sole (unfalsified trues ls) ≡ None in
     subst P (take-append-drop i xs)
-    (rw (filter-append (λ l. not (is_false trues l)) (take i xs) (drop i xs), drop-cons xs i d inside, here, list_all-append (same_literal unit), other)
-    (and_nothing (list_all (same_literal unit) (unfalsified trues (take i xs)))))
+    (rw (drop-cons xs i d inside, filter-append (λ l. not (is_false trues l)), here)
+    (sole_other (unfalsified trues (take i xs)) l (get_or xs i d) _ found (not-true (same_literal l (get_or xs i d)) (sym answer ∙ differs))))
 
 -- the hints that are left, before the last
 abbrev pub left_at : List ℕ → ℕ → ℕ → List ℕ

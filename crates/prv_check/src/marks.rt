@@ -1,13 +1,12 @@
 //! The literals that are true while a line is tested: a trail in the order in which they were made
 //! true, and beside it a table of the literals that they make false, so that each test of a literal is
 //! one look into the table.
-ghost use Rattle.std.specs.Prelude.{◌≡◌, ◌<◌, ◌≤◌, ◌++◌, ◌∷◌, ◌+◌, ◌*◌, [], length, map, nat_eq, IfOk};
+ghost use Rattle.std.specs.Prelude.{◌≡◌, ◌<◌, ◌≤◌, ◌++◌, ◌∷◌, ◌+◌, ◌*◌, [], length, map, nat_eq, IfOk, IfNone, IfSome};
 ghost use Rattle.prv_cnf.specs.Literals.{variable, negate, same_literal, has_literal};
 ghost use Rattle.prv_check.specs.Propagation.{is_false};
-ghost use Rattle.prv_check.specs.Inner.Marking.{AreFalse};
+ghost use Rattle.prv_check.specs.Inner.Marking.{AreFalse, center_of};
 
 use crate::flags::Flags;
-use crate::place::place;
 use prv_cnf::{Lit, MAX_VARS};
 use std::alloc::{AllocError, Global};
 use std::marker::Model;
@@ -22,7 +21,7 @@ pub struct Marks {
 }
 
 impl Model for Marks {
-    ghost use Rattle.std.specs.Prelude.{◌≡◌, ◌≤◌, ◌+◌, ◌*◌, length};
+    ghost use Rattle.std.specs.Prelude.{◌≤◌};
     ghost use Rattle.std.specs.Vec.{vec_capacity};
     ghost use Rattle.prv_cnf.specs.declared.formula.TheConstants.{MAX_VARS};
     ghost use Rattle.prv_check.specs.Inner.Marking.{Marking, AreFalse};
@@ -31,7 +30,7 @@ impl Model for Marks {
 
     ghost view = { λ m. record { vars = m.vars; room = m.room; trail = m.trail.items } };
 
-    ghost invariant = { λ m. (length m.falses ≡ 2 * m.vars + 1) × AreFalse m.falses m.trail.items × (m.vars ≤ MAX_VARS) × (m.room ≤ vec_capacity m.trail) };
+    ghost invariant = { λ m. AreFalse m.vars m.falses m.trail.items × (m.vars ≤ MAX_VARS) × (m.room ≤ vec_capacity m.trail) };
 }
 
 impl Marks {
@@ -52,6 +51,13 @@ impl Marks {
         })
     }
 
+    /// How many variables the table has places for.
+    pub fn vars(&self) -> u32
+        ensures { result ≡ self.now.vars }
+    {
+        self.vars
+    }
+
     /// The literals, in the order in which they were added.
     pub fn trail(&self) -> &[Lit]
         ensures { result.now ≡ self.now.trail }
@@ -62,7 +68,7 @@ impl Marks {
     /// The table of the false literals: the rounds in which they were made false, and the round that
     /// counts.
     pub fn falses(&self) -> (&[u32], u32)
-        ensures { AreFalse (map (nat_eq result.1) result.0.now) self.now.trail }
+        ensures { AreFalse self.now.vars (map (nat_eq result.1) result.0.now) self.now.trail }
     {
         self.falses.rounds()
     }
@@ -72,7 +78,7 @@ impl Marks {
         requires { variable lit ≤ self.now.vars }
         ensures { result ≡ has_literal self.now.trail lit }
     {
-        self.falses.has(place(lit.negated()))
+        self.falses.has(mirrored(self.vars, lit))
     }
 
     /// Whether the trail has the negation of the literal, which is of one of the variables.
@@ -80,7 +86,7 @@ impl Marks {
         requires { variable lit ≤ self.now.vars }
         ensures { result ≡ is_false self.now.trail lit }
     {
-        self.falses.has(place(lit))
+        self.falses.has(centered(self.vars, lit))
     }
 
     /// Adds the literal to the trail, which has room for it.
@@ -90,7 +96,7 @@ impl Marks {
     {
         self.trail.push(lit).unwrap();
         if lit.variable() <= self.vars {
-            self.falses.set(place(lit.negated()));
+            self.falses.set(mirrored(self.vars, lit));
         }
     }
 
@@ -115,16 +121,44 @@ impl Marks {
 
 /// Whether the trail makes the literal false: by the table of the rounds in which literals were made
 /// false, or by a look through the trail where the table has no place for it.
-pub fn is_false(rounds: &[u32], round: u32, trail: &[Lit], lit: Lit) -> bool
-    requires { AreFalse (map (nat_eq round) rounds.now) trail.now }
+pub fn is_false(vars: u32, rounds: &[u32], round: u32, trail: &[Lit], lit: Lit) -> bool
+    requires { AreFalse vars (map (nat_eq round) rounds.now) trail.now }
     ensures { result ≡ is_false trail.now lit }
 {
-    let at = place(lit);
-    if at < rounds.len() {
-        rounds[at] == round
-    } else {
-        has_negation(trail, lit)
+    match center(vars, lit) {
+        Some(at) => rounds[at] == round,
+        None => has_negation(trail, lit),
     }
+}
+
+/// The literal's place in a table that has 0 in its middle, if it has one.
+fn center(vars: u32, lit: Lit) -> Option<usize>
+    ensures none { IfNone result (vars < variable lit) }
+    ensures some { IfSome result (λ at. (at ≡ center_of vars lit) × (variable lit ≤ vars) × (at < 2 * vars + 1)) }
+{
+    let at = lit.0 as i64 + vars as i64;
+    if at < 0 || at > 2 * vars as i64 {
+        None
+    } else {
+        Some(at as usize)
+    }
+}
+
+/// The place of a literal of one of the variables.
+fn centered(vars: u32, lit: Lit) -> usize
+    requires { variable lit ≤ vars }
+    ensures { result ≡ center_of vars lit }
+{
+    (vars as i64 + lit.0 as i64) as usize
+}
+
+/// The place of the negation of a literal of one of the variables.
+fn mirrored(vars: u32, lit: Lit) -> usize
+    requires { variable lit ≤ vars }
+    ensures value { result ≡ center_of vars (negate lit) }
+    ensures bound { result < 2 * vars + 1 }
+{
+    (vars as i64 - lit.0 as i64) as usize
 }
 
 /// Whether the literal's negation is among the literals.

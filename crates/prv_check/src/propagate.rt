@@ -1,8 +1,8 @@
 //! Unit propagation along the hints of a line.
-ghost use Rattle.std.specs.Prelude.{◌≡◌, ◌+◌, ◌≤◌, length, map, nat_eq, nat_lt, IsTrue};
+ghost use Rattle.std.specs.Prelude.{◌≡◌, ◌+◌, ◌≤◌, length, map, nat_eq, nat_lt, false, not, IsTrue, MatchOption};
 ghost use Rattle.std.specs.List.{list_all};
 ghost use Rattle.prv_cnf.specs.Literals.{same_literal};
-ghost use Rattle.prv_check.specs.Propagation.{is_false, unfalsified, unit_literal, hints_fault, trail_after};
+ghost use Rattle.prv_check.specs.Propagation.{is_false, unit_literal, hints_fault, trail_after};
 ghost use Rattle.prv_check.specs.Lines.{known, clauses_at};
 ghost use Rattle.prv_check.specs.Inner.Marking.{AreFalse};
 
@@ -10,47 +10,43 @@ use crate::fault::LineWhy;
 use crate::known::clause_at;
 use crate::log::Line;
 use crate::marks::{Marks, is_false};
-use crate::slices::after;
 use prv_cnf::{Cnf, Lit};
 
 /// The one literal of a clause that isn't false, if there is one.
 #[inline(never)]
-fn unit_of(rounds: &[u32], round: u32, trail: &[Lit], lits: &[Lit]) -> Option<Lit>
-    requires { AreFalse (map (nat_eq round) rounds.now) trail.now }
+fn unit_of(vars: u32, rounds: &[u32], round: u32, trail: &[Lit], lits: &[Lit]) -> Option<Lit>
+    requires { AreFalse vars (map (nat_eq round) rounds.now) trail.now }
     ensures { result ≡ unit_literal trail.now lits.now }
 {
-    for (at, lit) in lits.iter().enumerate() {
-        if !is_false(rounds, round, trail, *lit) {
-            return if others_false(rounds, round, trail, after(lits, at + 1), *lit) {
-                Some(*lit)
-            } else {
-                None
-            };
+    let mut found = None;
+    for lit in lits {
+        if !is_false(vars, rounds, round, trail, *lit) {
+            if is_other(found, *lit) {
+                return None;
+            }
+            found = Some(*lit);
         }
     }
-    None
+    found
 }
 
-/// Whether each of the literals is false, or this one.
-fn others_false(rounds: &[u32], round: u32, trail: &[Lit], lits: &[Lit], unit: Lit) -> bool
-    requires { AreFalse (map (nat_eq round) rounds.now) trail.now }
-    ensures { result ≡ list_all (same_literal unit) (unfalsified trail.now lits.now) }
+/// Whether a literal was found that isn't this one.
+fn is_other(found: Option<Lit>, lit: Lit) -> bool
+    ensures { MatchOption found (result ≡ false) (λ l. result ≡ not (same_literal l lit)) }
 {
-    for lit in lits {
-        if !is_false(rounds, round, trail, *lit) && unit.0 != lit.0 {
-            return false;
-        }
+    match found {
+        None => false,
+        Some(other) => other.0 != lit.0,
     }
-    true
 }
 
 /// Whether each literal of a clause is false.
-fn all_false(rounds: &[u32], round: u32, trail: &[Lit], lits: &[Lit]) -> bool
-    requires { AreFalse (map (nat_eq round) rounds.now) trail.now }
+fn all_false(vars: u32, rounds: &[u32], round: u32, trail: &[Lit], lits: &[Lit]) -> bool
+    requires { AreFalse vars (map (nat_eq round) rounds.now) trail.now }
     ensures { result ≡ list_all (is_false trail.now) lits.now }
 {
     for lit in lits {
-        if !is_false(rounds, round, trail, *lit) {
+        if !is_false(vars, rounds, round, trail, *lit) {
             return false;
         }
     }
@@ -64,20 +60,21 @@ pub fn propagate(cnf: &Cnf, earlier: &[Line], hints: &[u32], marks: &mut Marks) 
     ensures fault { result ≡ hints_fault marks.old.trail (clauses_at (known cnf.now earlier.now) hints.now) }
     ensures trail { marks.new ≡ record marks.old { trail = trail_after marks.old.trail (clauses_at (known cnf.now earlier.now) hints.now) } }
 {
+    let vars = marks.vars();
     let Some((last, others)) = hints.split_last() else {
         return Some(LineWhy::NoHints);
     };
     for hint in others {
         let clause = clause_at(cnf, earlier, *hint as usize);
         let (rounds, round) = marks.falses();
-        match unit_of(rounds, round, marks.trail(), clause) {
+        match unit_of(vars, rounds, round, marks.trail(), clause) {
             None => return Some(LineWhy::NotUnit),
             Some(lit) => marks.add(lit),
         }
     }
     let clause = clause_at(cnf, earlier, *last as usize);
     let (rounds, round) = marks.falses();
-    if all_false(rounds, round, marks.trail(), clause) {
+    if all_false(vars, rounds, round, marks.trail(), clause) {
         None
     } else {
         Some(LineWhy::NotFalse)
