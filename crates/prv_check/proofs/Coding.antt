@@ -1,19 +1,17 @@
 -- The sets of literals over n variables, without a literal and its negation, as numbers below 3 to the
 -- power of n: a digit a variable.
-use Rattle.std.proofs.Common.{◌≡◌, ℕ, suc, zero, ◌+◌, ◌-◌, ◌*◌, ◌^◌, ◌<◌, ◌≤◌, Bool, true, false, not, ◌&&◌, List, [], ◌∷◌, ◌⊎◌, map, length, get_or, ℤ, pos, negsuc, unsigned_abs, refl, sym, ap, subst, ◌∙◌, inl, inr, arith, cond}
+use Rattle.std.proofs.Common.{◌≡◌, ℕ, suc, zero, ◌+◌, ◌-◌, ◌*◌, ◌^◌, ◌<◌, ◌≤◌, Bool, true, false, not, List, [], ◌∷◌, ◌⊎◌, map, length, ℤ, pos, negsuc, unsigned_abs, refl, sym, ap, subst, ◌∙◌, inl, inr, arith, cond}
 use Rattle.std.specs.Prelude.{nat_eq, nat_lt, nat_le}
 use Rattle.std.specs.List.{list_any, list_all}
 use Rattle.std.proofs.Math.Nat.{pow-suc}
-use Rattle.std.proofs.lemmas.Bool.{or_cases, or_left, or_right, and_parts, and_from, cases_lt, ltb-true, lt-ltb, leb-true, eqb-true, true≢false, false_from_ne_true}
+use Rattle.std.proofs.lemmas.Bool.{or_cases, or_left, or_right, and_parts, and_from, cases_lt, ltb-true, lt-ltb, leb-true, eqb-true, true≢false}
 use Rattle.std.proofs.lemmas.List.{length-map}
-use Rattle.std.proofs.lemmas.List.Folds.{Any-from_list_any, list_any_at}
 use Rattle.prv_cnf.specs.declared.literal.Lit.{Lit}
 use Rattle.prv_cnf.specs.Literals.{variable, negate, same_literal, has_literal}
 use Rattle.prv_cnf.proofs.Values.{same_literal-eq, same_literal_refl, same_number, negate-negate, all-has_literal}
-use Rattle.prv_check.specs.Lines.{is_within, no_repeat, is_tautology, is_empty}
+use Rattle.prv_check.specs.Lines.{is_within, no_repeat, is_tautology}
 use Rattle.prv_check.specs.Freshness.{contains_clause}
 use Rattle.prv_check.specs.Spending.{are_distinct}
-use Rattle.prv_check.proofs.Placing.{variable-negate}
 use Rattle.prv_check.proofs.Counting.{distinct_short, not_false, not_from}
 
 -- the literal of a variable

@@ -1,19 +1,17 @@
 -- Places of literals, and tables by place.
-use Rattle.std.proofs.Common.{◌≡◌, ℕ, suc, zero, ◌+◌, ◌*◌, ◌<◌, ◌≤◌, Bool, true, false, ◌&&◌, ◌||◌, List, [], ◌∷◌, ◌++◌, ℤ, pos, negsuc, neg_ℤ, unsigned_abs, length, map, replicate, refl, sym, ap, subst, ◌∙◌, inl, inr, arith, get_or, get_or-set_same, get_or-set_other}
-use Rattle.std.specs.Prelude.{slice_set, nat_eq, nat_lt}
+use Rattle.std.proofs.Common.{◌≡◌, ℕ, suc, zero, ◌+◌, ◌*◌, ◌<◌, ◌≤◌, Bool, true, false, ◌&&◌, ◌||◌, List, [], ◌∷◌, ℤ, pos, negsuc, neg_ℤ, unsigned_abs, length, map, replicate, refl, sym, ap, subst, ◌∙◌, inl, inr, arith, get_or}
+use Rattle.std.specs.Prelude.{nat_eq, nat_lt}
 use Rattle.std.specs.List.{All, list_all}
 use Rattle.std.proofs.lemmas.List.Sums.{AllPass-from_list_all}
-use Rattle.std.proofs.lemmas.Bool.{true≢false, cases_eq, cases_lt, ne_eqb, and_parts, ltb-true, leb-true, lt-ltb, false_from_ne_true, and_from}
-use Rattle.std.proofs.lemmas.List.{length-set, length-replicate, get_or-replicate}
+use Rattle.std.proofs.lemmas.Bool.{true≢false, cases_lt, ne_eqb, and_parts, leb-true, lt-ltb, and_from}
+use Rattle.std.proofs.lemmas.List.{length-replicate, get_or-replicate}
 use Rattle.std.proofs.lemmas.List.Folds.{Any-from_list_any}
 use Rattle.std.proofs.Math.ListN.{get_or-eq_default}
 use Rattle.prv_cnf.specs.declared.literal.Lit.{Lit}
 use Rattle.prv_cnf.specs.Literals.{variable, negate, same_literal, has_literal}
-use Rattle.prv_cnf.proofs.Values.{same_literal-eq, same_literal_refl, same_number, negate-negate, all-has_literal}
-use Rattle.prv_check.specs.Propagation.{is_false}
+use Rattle.prv_cnf.proofs.Values.{same_literal-eq, same_literal_refl, same_number}
 use Rattle.prv_check.specs.Lines.{is_within}
 use Rattle.prv_check.specs.Inner.Places.{signed_place, place_of, flag, are_flagged, IsTableOf, AreFlagged}
-use Rattle.prv_check.specs.Inner.Marking.{AreFalse}
 
 signed_place-injective : (x y : ℤ) → signed_place x ≡ signed_place y → x ≡ y
 signed_place-injective (pos a) (pos b) e = ap pos (omega arith)
@@ -47,10 +45,6 @@ unsigned_abs-neg (negsuc k) = refl
 
 pub variable-negate : (l : Lit) → variable (negate l) ≡ variable l
 variable-negate l = unsigned_abs-neg l.0
-
--- the place of the negation of a literal of the first n variables
-pub place_of-negate : (n : ℕ) (l : Lit) → variable l ≤ n → place_of (negate l) < 2 * n + 1
-place_of-negate n l within = omega (arith, place_of-le (negate l), variable-negate l)
 
 -- ---- flags by rounds
 

@@ -1,5 +1,5 @@
-use Rattle.std.proofs.Common.{◌≡◌, ℕ, ◌<◌, [], Bool, true, false, length, List, pos, sym, ap, subst, ◌∙◌, get_or, inl, inr, arith}
-use Rattle.std.specs.Prelude.{slice_index_or, bit_or}
+use Rattle.std.proofs.Common.{◌≡◌, ℕ, ◌<◌, [], true, false, length, List, pos, sym, subst, ◌∙◌, get_or, inl, inr, arith}
+use Rattle.std.specs.Prelude.{slice_index_or}
 use Rattle.std.specs.List.{list_any, list_all}
 use Rattle.std.proofs.lemmas.Bool.{cases_lt}
 use Rattle.std.proofs.lemmas.List.{get_or_default}
@@ -7,7 +7,6 @@ use Rattle.prv_cnf.specs.declared.literal.Lit.{Lit}
 use Rattle.prv_check.specs.declared.index.Entry.{Entry}
 use Rattle.prv_check.specs.Lines.{known}
 use Rattle.prv_check.specs.Inner.Places.{place_of}
-use Rattle.prv_check.specs.Inner.Signatures.{signature}
 use Rattle.prv_check.specs.Inner.Indexing.{is_entry}
 use Rattle.prv_check.specs.Freshness.{contains_clause}
 use Rattle.prv_check.proofs.Signing.{contained_signature}

@@ -1,4 +1,4 @@
-use Rattle.std.proofs.Common.{◌≡◌, ◌<◌, length, List, sym, subst, ◌∙◌}
+use Rattle.std.proofs.Common.{◌<◌, length, List, sym, subst, ◌∙◌}
 use Rattle.std.specs.List.{All}
 use Rattle.prv_cnf.specs.declared.literal.Lit.{Lit}
 use Rattle.prv_check.specs.Inner.Places.{place_of}

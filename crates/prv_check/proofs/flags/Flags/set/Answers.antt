@@ -1,4 +1,4 @@
-use Rattle.std.proofs.Common.{◌≡◌, ℕ, List, map, refl, ap, ◌∙◌}
+use Rattle.std.proofs.Common.{ℕ, List, map, refl, ap, ◌∙◌}
 use Rattle.std.specs.Prelude.{Bool, true, nat_eq, slice_set}
 use Rattle.std.proofs.lemmas.Bool.{eq-eqb}
 use Rattle.std.proofs.lemmas.List.{map-set}
