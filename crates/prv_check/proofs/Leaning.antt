@@ -1,7 +1,8 @@
 -- What the hints of a line made true, and what is used of it.
-use Rattle.std.proofs.Common.{◌≡◌, ℕ, suc, zero, ◌<◌, ◌≤◌, Bool, true, false, ◌&&◌, ◌||◌, List, [], ◌∷◌, ◌++◌, map, length, drop, get_or, Option, None, Some, refl, sym, ◌∙◌, arith}
-use Rattle.std.specs.Prelude.{slice_get}
-use Rattle.std.specs.List.{list_all}
+use Rattle.std.proofs.Common.{◌≡◌, ℕ, suc, zero, ◌<◌, ◌≤◌, Bool, true, false, ◌&&◌, ◌||◌, List, [], ◌∷◌, ◌++◌, map, length, drop, get_or, Option, None, Some, refl, sym, ap, ◌∙◌, arith}
+use Rattle.std.specs.Prelude.{slice_get, slice_index_or}
+use Rattle.std.specs.List.{All, list_all}
+use Rattle.std.proofs.lemmas.Bool.{and_parts}
 use Rattle.std.specs.Option.{option_map_or}
 use Rattle.std.proofs.lemmas.List.{append-nil, append_assoc, length-append, length-map}
 use Rattle.std.proofs.Math.Seq.{drop-cons, drop-append_seam}
@@ -9,6 +10,7 @@ use Rattle.prv_cnf.specs.declared.literal.Lit.{Lit}
 use Rattle.prv_cnf.specs.Literals.{negate, has_literal}
 use Rattle.prv_check.specs.Propagation.{unit_literal, trail_after}
 use Rattle.prv_check.specs.Lines.{clauses_at}
+use Rattle.prv_check.specs.Inner.Places.{place_of, flag, are_flagged}
 use Rattle.prv_check.specs.Freshness.{stands_in, units_used, have_use}
 
 -- what the clauses make true, in turn
@@ -41,27 +43,26 @@ pub use_by_trail : (trues : List Lit) (cs : List (List Lit)) (n : ℕ) → n ≡
 use_by_trail trues cs n e = rw (e, trail_is trues cs, drop-append_seam trues (units_of trues cs)) (sym (used_is trues cs))
 
 -- a hint more, before those that were looked at
-pub use_step : (n : ℕ) (us : List Lit) (cs : List (List Lit)) → n < length cs → have_use (drop n us) (drop n cs) ≡ (option_map_or (λ u. stands_in (drop (suc n) cs) (negate u)) (slice_get us n) true && have_use (drop (suc n) us) (drop (suc n) cs))
-use_step n us [] inside = absurd (omega arith)
-use_step zero [] (c ∷ cs) inside = refl
-use_step zero (u ∷ us) (c ∷ cs) inside = refl
-use_step (suc n) [] (c ∷ cs) inside = refl
-use_step (suc n) (u ∷ us) (c ∷ cs) inside = use_step n us cs (omega arith)
+pub use_step : (n : ℕ) (us : List Lit) (cs : List (List Lit)) (hs : List ℕ) → n < length hs → have_use (drop n us) (clauses_at cs (drop n hs)) ≡ (option_map_or (λ u. stands_in (clauses_at cs (drop (suc n) hs)) (negate u)) (slice_get us n) true && have_use (drop (suc n) us) (clauses_at cs (drop (suc n) hs)))
+use_step n us cs [] inside = absurd (omega arith)
+use_step zero [] cs (h ∷ hs) inside = refl
+use_step zero (u ∷ us) cs (h ∷ hs) inside = refl
+use_step (suc n) [] cs (h ∷ hs) inside = use_step_none n cs hs (omega arith)
+  where
+    use_step_none : (n : ℕ) (cs : List (List Lit)) (hs : List ℕ) → n < length hs → have_use [] (clauses_at cs (drop n hs)) ≡ true
+    use_step_none n cs hs inside = refl
+use_step (suc n) (u ∷ us) cs (h ∷ hs) inside = use_step n us cs hs (omega arith)
 
 pub use_none : (us : List Lit) → have_use us [] ≡ true
 use_none [] = refl
 use_none (u ∷ us) = refl
 
-pub stands_step : (n : ℕ) (cs : List (List Lit)) (x : Lit) → n < length cs → stands_in (drop n cs) x ≡ (has_literal (get_or cs n []) x || stands_in (drop (suc n) cs) x)
-stands_step n cs x inside = rw (drop-cons cs n [] inside) refl
+pub stands_step : (n : ℕ) (cs : List (List Lit)) (hs : List ℕ) (x : Lit) → n < length hs → stands_in (clauses_at cs (drop n hs)) x ≡ (has_literal (slice_index_or cs (get_or hs n 0) []) x || stands_in (clauses_at cs (drop (suc n) hs)) x)
+stands_step n cs hs x inside = rw (drop-cons hs n 0 inside) refl
 
 pub all_same : (p q : Lit → Bool) → ((l : Lit) → p l ≡ q l) → (ls : List Lit) → list_all p ls ≡ list_all q ls
 all_same p q same [] = refl
 all_same p q same (x ∷ xs) = rw (same x, all_same p q same xs) refl
-
-pub nothing_left : (cs : List (List Lit)) (ns : List ℕ) → drop (length ns) (clauses_at cs ns) ≡ []
-nothing_left cs [] = refl
-nothing_left cs (n ∷ ns) = nothing_left cs ns
 
 pub same_or_true : (p q : Lit → Bool) → ((l : Lit) → p l ≡ q l) → (o : Option Lit) → option_map_or p o true ≡ option_map_or q o true
 same_or_true p q same None = refl
@@ -77,3 +78,23 @@ or_swapped false b false d e f = rw (← e, ← f) refl
 pub trail_long : (lits : List Lit) (cs : List (List Lit)) → length lits ≤ length (trail_after (map negate lits) cs)
 trail_long lits cs =
     rw (trail_is (map negate lits) cs) (omega (arith, length-append (map negate lits) (units_of (map negate lits) cs), length-map lits negate))
+
+-- a table that has what the clauses have tells whether literals that have places stand in them
+pub flagged_stand : (size : ℕ) (table : List Bool) (cs : List (List Lit)) (ls : List Lit) → All (λ l. place_of l < size) ls → ((x : Lit) → place_of x < size → flag table x ≡ stands_in cs x) → are_flagged table ls ≡ list_all (stands_in cs) ls
+flagged_stand size table cs [] places same = refl
+flagged_stand size table cs (l ∷ ls) places same =
+    let first : flag table l ≡ stands_in cs l = same l (places 0 l (omega arith)) in
+    let rest : are_flagged table ls ≡ list_all (stands_in cs) ls =
+    flagged_stand size table cs ls (λ k d inside. places (suc k) d (omega arith)) same in
+    rw (first, rest) refl
+
+pub lean_parts : (cs : List (List Lit)) (lits units : List Lit) (stand used : Bool) → stand ≡ list_all (stands_in cs) lits → used ≡ have_use units cs → units ≡ drop (length lits) (trail_after (map negate lits) cs) → (stand && used) ≡ (list_all (stands_in cs) lits && units_used (map negate lits) cs)
+lean_parts cs lits units stand used e f g =
+    let u : used ≡ units_used (map negate lits) cs =
+    f ∙ ap (λ (us : List Lit). have_use us cs) g ∙ use_by_trail (map negate lits) cs (length lits) (sym (length-map lits negate)) in
+    rw (e, u) refl
+
+pub all_drop : {X : Type 0} (p : X → Bool) (n : ℕ) (xs : List X) → list_all p xs ≡ true → list_all p (drop n xs) ≡ true
+all_drop p zero xs all = all
+all_drop p (suc n) [] all = refl
+all_drop p (suc n) (x ∷ xs) all = all_drop p n xs (and_parts (p x) (list_all p xs) all).1

@@ -1,8 +1,12 @@
+pub mod Placing
+pub mod Signing
+pub mod Subsuming
 pub mod Refuting
-pub mod Marked
 pub mod Propagating
 pub mod Falsifying
 pub mod Ending
-pub mod Subsuming
 pub mod Leaning
 pub mod Passing
+pub mod Counting
+pub mod Coding
+pub mod Spending

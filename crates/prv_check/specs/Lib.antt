@@ -1,9 +1,9 @@
 pub mod LogLines
 pub mod Propagation
-pub mod Places
-pub mod Marking
 pub mod Lines
 pub mod Logs
 pub mod Preparation
-pub mod Indexing
 pub mod Freshness
+pub mod Spending
+pub mod NextLines
+pub mod Inner

@@ -58,3 +58,28 @@ impl From<AllocError> for CheckError {
         CheckError::Memory
     }
 }
+
+/// Why a log can't go on with a line.
+#[derive(Clone, Copy, Debug, PartialEq, Eq, Error)]
+pub enum NextError {
+    /// The line doesn't follow or isn't fresh: the first test that it fails.
+    #[error("{0}")]
+    Refused(LineWhy),
+    /// A hint stands in the line twice.
+    #[error("a hint stands in the line twice")]
+    RepeatedHint,
+    /// Memory ran out.
+    #[error("out of memory")]
+    Memory,
+}
+
+impl From<AllocError> for NextError {
+    ghost use Rattle.std.specs.Prelude.{◌≡◌};
+    ghost use Rattle.prv_check.specs.declared.fault.NextError.TheVariants.{Memory};
+
+    ghost from_gives = { λ _ e. e ≡ Memory };
+
+    fn from(_error: AllocError) -> NextError {
+        NextError::Memory
+    }
+}

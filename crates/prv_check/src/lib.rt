@@ -6,6 +6,7 @@
 mod checker;
 mod containment;
 mod fault;
+mod flags;
 mod fresh;
 mod index;
 mod known;
@@ -14,14 +15,19 @@ mod lean;
 mod line;
 mod log;
 mod marks;
+mod next;
+mod place;
 mod propagate;
+mod signature;
+mod slices;
 #[cfg(test)]
 mod tests;
 mod work;
 
 pub use checker::check;
-pub use fault::{CheckError, LineWhy};
+pub use fault::{CheckError, LineWhy, NextError};
 pub use fresh::check_fresh;
-pub use law::accepted_has_no_model;
+pub use law::{accepted_has_no_model, ample_budget_is_not_spent};
 pub use log::{Line, Log};
+pub use next::check_next;
 pub use work::{Work, check_line, prepare};

@@ -90,7 +90,7 @@ fn falsify(lits: &[Lit], marks: &mut Marks) -> bool
 {
     let mut once = true;
     for lit in lits {
-        once = once && !marks.has_negation(*lit);
+        once = once && !marks.makes_false(*lit);
         marks.add_negation(*lit);
     }
     once
@@ -98,15 +98,14 @@ fn falsify(lits: &[Lit], marks: &mut Marks) -> bool
 
 /// Whether a literal stands in the clause with its negation, once all its literals are false.
 fn is_tautology(lits: &[Lit], marks: &Marks) -> bool
-    requires { marks.now.trail ≡ map negate lits.now }
+    requires within { IsTrue (list_all (is_within marks.now.vars) lits.now) }
+    requires trail { marks.now.trail ≡ map negate lits.now }
     ensures { result ≡ is_tautology lits.now }
 {
-    any_true(lits, marks)
-}
-
-/// Whether some literal is true.
-fn any_true(lits: &[Lit], marks: &Marks) -> bool
-    ensures { result ≡ list_any (has_literal marks.now.trail) lits.now }
-{
-    lits.iter().any(|lit| marks.has(*lit))
+    for lit in lits {
+        if marks.makes_true(*lit) {
+            return true;
+        }
+    }
+    false
 }

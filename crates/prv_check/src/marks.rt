@@ -1,53 +1,61 @@
 //! The literals that are true while a line is tested: a trail in the order in which they were made
-//! true, and beside it a table by literal, so that each question takes one step. Taking the marks
-//! back takes the time of the trail, whatever the size of the table.
-ghost use Rattle.std.specs.Prelude.{◌≡◌, ◌+◌, ◌*◌, ◌<◌, ◌≤◌, ◌++◌, ◌∷◌, [], length, IfOk, OnOk, OnErr};
+//! true, and beside it a table of the literals that they make false, so that each test of a literal is
+//! one look into the table.
+ghost use Rattle.std.specs.Prelude.{◌≡◌, ◌<◌, ◌≤◌, ◌++◌, ◌∷◌, ◌+◌, ◌*◌, [], length, map, nat_eq, IfOk, IfNone, IfSome};
 ghost use Rattle.prv_cnf.specs.Literals.{variable, negate, same_literal, has_literal};
 ghost use Rattle.prv_check.specs.Propagation.{is_false};
-ghost use Rattle.prv_check.specs.Places.{place_of};
+ghost use Rattle.prv_check.specs.Inner.Marking.{AreFalse, center_of};
 
+use crate::flags::Flags;
 use prv_cnf::{Lit, MAX_VARS};
 use std::alloc::{AllocError, Global};
 use std::marker::Model;
 
-/// A set of literals, as a trail and a table of marks.
+/// A set of true literals, as a trail and a table of the false ones.
 #[derive(Debug, Drop)]
 pub struct Marks {
     vars: u32,
     room: usize,
-    table: Vec<bool>,
+    falses: Flags,
     trail: Vec<Lit>,
 }
 
 impl Model for Marks {
     ghost use Rattle.std.specs.Prelude.{◌≤◌};
-    ghost use Rattle.prv_cnf.specs.declared.formula.TheConstants.{MAX_VARS};
     ghost use Rattle.std.specs.Vec.{vec_capacity};
-    ghost use Rattle.prv_check.specs.Marking.{Marking, AreMarked};
+    ghost use Rattle.prv_cnf.specs.declared.formula.TheConstants.{MAX_VARS};
+    ghost use Rattle.prv_check.specs.Inner.Marking.{Marking, AreFalse};
 
     ghost Value = { Marking };
 
     ghost view = { λ m. record { vars = m.vars; room = m.room; trail = m.trail.items } };
 
-    ghost invariant = { λ m. AreMarked m.vars m.table.items m.trail.items × (m.vars ≤ MAX_VARS) × (m.room ≤ vec_capacity m.trail) };
+    ghost invariant = { λ m. AreFalse m.vars m.falses m.trail.items × (m.vars ≤ MAX_VARS) × (m.room ≤ vec_capacity m.trail) };
 }
 
 impl Marks {
-    ghost use Rattle.prv_check.specs.Marking.{Marking};
+    ghost use Rattle.prv_check.specs.Inner.Marking.{Marking};
 
     /// No literals, with a table for so many variables and room for so many literals.
     pub fn new(alloc: Global, vars: u32, room: usize) -> Result<Marks, AllocError>
         requires { vars ≤ MAX_VARS }
         ensures { IfOk result (λ m. m ≡ record { vars = vars; room = room; trail = [] }) }
     {
-        let table = vec![in alloc; false; 2 * vars as usize + 2]?;
+        let falses = Flags::new(alloc, 2 * vars as usize + 1)?;
         let trail = Vec::with_capacity(alloc, room)?;
         Ok(Marks {
             vars,
             room,
-            table,
+            falses,
             trail,
         })
+    }
+
+    /// How many variables the table has places for.
+    pub fn vars(&self) -> u32
+        ensures { result ≡ self.now.vars }
+    {
+        self.vars
     }
 
     /// The literals, in the order in which they were added.
@@ -57,27 +65,28 @@ impl Marks {
         self.trail.as_slice()
     }
 
-    /// Whether the literal is in the trail: by the table, or by a look through the trail where the
-    /// table has no place for it.
-    pub fn has(&self, lit: Lit) -> bool
-        ensures { result ≡ has_literal self.now.trail lit }
+    /// The table of the false literals: the rounds in which they were made false, and the round that
+    /// counts.
+    pub fn falses(&self) -> (&[u32], u32)
+        ensures { AreFalse self.now.vars (map (nat_eq result.1) result.0.now) self.now.trail }
     {
-        if lit.variable() <= self.vars {
-            self.table[place(lit)]
-        } else {
-            stands_in(self.trail.as_slice(), lit)
-        }
+        self.falses.rounds()
     }
 
-    /// Whether the literal's negation is in the trail.
-    pub fn has_negation(&self, lit: Lit) -> bool
+    /// Whether the trail has the literal, which is of one of the variables.
+    pub fn makes_true(&self, lit: Lit) -> bool
+        requires { variable lit ≤ self.now.vars }
+        ensures { result ≡ has_literal self.now.trail lit }
+    {
+        self.falses.has(mirrored(self.vars, lit))
+    }
+
+    /// Whether the trail has the negation of the literal, which is of one of the variables.
+    pub fn makes_false(&self, lit: Lit) -> bool
+        requires { variable lit ≤ self.now.vars }
         ensures { result ≡ is_false self.now.trail lit }
     {
-        if lit.variable() <= self.vars {
-            self.table[place(lit.negated())]
-        } else {
-            negation_stands_in(self.trail.as_slice(), lit)
-        }
+        self.falses.has(centered(self.vars, lit))
     }
 
     /// Adds the literal to the trail, which has room for it.
@@ -87,7 +96,7 @@ impl Marks {
     {
         self.trail.push(lit).unwrap();
         if lit.variable() <= self.vars {
-            self.table[place(lit)] = true;
+            self.falses.set(mirrored(self.vars, lit));
         }
     }
 
@@ -101,57 +110,61 @@ impl Marks {
         self.add(lit.negated());
     }
 
-    /// Adds the literal to the trail, which may grow for it.
-    pub fn try_add(&mut self, lit: Lit) -> Result<(), AllocError>
-        ensures ok { OnOk result (self.new ≡ record self.old { trail = self.old.trail ++ lit ∷ [] }) }
-        ensures err { OnErr result (self.new ≡ self.old) }
-    {
-        self.trail.push(lit)?;
-        if lit.variable() <= self.vars {
-            self.table[place(lit)] = true;
-        }
-        Ok(())
-    }
-
-    /// Adds the literals to the trail, in order.
-    pub fn add_all(&mut self, lits: &[Lit]) -> Result<(), AllocError>
-        ensures { OnOk result (self.new ≡ record self.old { trail = self.old.trail ++ lits.now }) }
-    {
-        for lit in lits {
-            self.try_add(*lit)?;
-        }
-        Ok(())
-    }
-
     /// Takes all literals back.
     pub fn clear(&mut self)
         ensures { self.new ≡ record self.old { trail = [] } }
     {
-        while let Some(lit) = self.trail.pop() {
-            if lit.variable() <= self.vars {
-                self.table[place(lit)] = false;
-            }
-        }
+        self.falses.clear();
+        self.trail.clear();
     }
 }
 
-/// The literal's place in a table by literal: those of variable k stand at 2k and 2k + 1.
-pub fn place(lit: Lit) -> usize
-    ensures value { result ≡ place_of lit }
-    ensures bound { result ≤ 2 * variable lit + 1 }
+/// Whether the trail makes the literal false: by the table of the rounds in which literals were made
+/// false, or by a look through the trail where the table has no place for it.
+pub fn is_false(vars: u32, rounds: &[u32], round: u32, trail: &[Lit], lit: Lit) -> bool
+    requires { AreFalse vars (map (nat_eq round) rounds.now) trail.now }
+    ensures { result ≡ is_false trail.now lit }
 {
-    let pair = 2 * lit.variable() as usize;
-    if lit.0 < 0 { pair + 1 } else { pair }
+    match center(vars, lit) {
+        Some(at) => rounds[at] == round,
+        None => has_negation(trail, lit),
+    }
 }
 
-fn stands_in(lits: &[Lit], lit: Lit) -> bool
-    ensures { result ≡ has_literal lits.now lit }
+/// The literal's place in a table that has 0 in its middle, if it has one.
+fn center(vars: u32, lit: Lit) -> Option<usize>
+    ensures none { IfNone result (vars < variable lit) }
+    ensures some { IfSome result (λ at. (at ≡ center_of vars lit) × (variable lit ≤ vars) × (at < 2 * vars + 1)) }
 {
-    lits.iter().any(|other| lit.0 == other.0)
+    let at = lit.0 as i64 + vars as i64;
+    if at < 0 || at > 2 * vars as i64 {
+        None
+    } else {
+        Some(at as usize)
+    }
+}
+
+/// The place of a literal of one of the variables.
+fn centered(vars: u32, lit: Lit) -> usize
+    requires { variable lit ≤ vars }
+    ensures { result ≡ center_of vars lit }
+{
+    (vars as i64 + lit.0 as i64) as usize
+}
+
+/// The place of the negation of a literal of one of the variables.
+fn mirrored(vars: u32, lit: Lit) -> usize
+    requires { variable lit ≤ vars }
+    ensures value { result ≡ center_of vars (negate lit) }
+    ensures bound { result < 2 * vars + 1 }
+{
+    (vars as i64 - lit.0 as i64) as usize
 }
 
 /// Whether the literal's negation is among the literals.
-fn negation_stands_in(lits: &[Lit], lit: Lit) -> bool
+#[cold]
+#[inline(never)]
+pub fn has_negation(lits: &[Lit], lit: Lit) -> bool
     ensures { result ≡ has_literal lits.now (negate lit) }
 {
     lits.iter().any(|other| is_negation(lit, *other))

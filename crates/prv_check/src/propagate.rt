@@ -1,23 +1,26 @@
 //! Unit propagation along the hints of a line.
-ghost use Rattle.std.specs.Prelude.{◌≡◌, ◌+◌, ◌≤◌, length, nat_lt, false, not, IsTrue, MatchOption};
+ghost use Rattle.std.specs.Prelude.{◌≡◌, ◌+◌, ◌≤◌, length, map, nat_eq, nat_lt, false, not, IsTrue, MatchOption};
 ghost use Rattle.std.specs.List.{list_all};
 ghost use Rattle.prv_cnf.specs.Literals.{same_literal};
 ghost use Rattle.prv_check.specs.Propagation.{is_false, unit_literal, hints_fault, trail_after};
 ghost use Rattle.prv_check.specs.Lines.{known, clauses_at};
+ghost use Rattle.prv_check.specs.Inner.Marking.{AreFalse};
 
 use crate::fault::LineWhy;
 use crate::known::clause_at;
 use crate::log::Line;
-use crate::marks::Marks;
+use crate::marks::{Marks, is_false};
 use prv_cnf::{Cnf, Lit};
 
 /// The one literal of a clause that isn't false, if there is one.
-pub fn unit_of(marks: &Marks, lits: &[Lit]) -> Option<Lit>
-    ensures { result ≡ unit_literal marks.now.trail lits.now }
+#[inline(never)]
+fn unit_of(vars: u32, rounds: &[u32], round: u32, trail: &[Lit], lits: &[Lit]) -> Option<Lit>
+    requires { AreFalse vars (map (nat_eq round) rounds.now) trail.now }
+    ensures { result ≡ unit_literal trail.now lits.now }
 {
     let mut found = None;
     for lit in lits {
-        if !marks.has_negation(*lit) {
+        if !is_false(vars, rounds, round, trail, *lit) {
             if is_other(found, *lit) {
                 return None;
             }
@@ -38,10 +41,16 @@ fn is_other(found: Option<Lit>, lit: Lit) -> bool
 }
 
 /// Whether each literal of a clause is false.
-pub fn all_false(marks: &Marks, lits: &[Lit]) -> bool
-    ensures { result ≡ list_all (is_false marks.now.trail) lits.now }
+fn all_false(vars: u32, rounds: &[u32], round: u32, trail: &[Lit], lits: &[Lit]) -> bool
+    requires { AreFalse vars (map (nat_eq round) rounds.now) trail.now }
+    ensures { result ≡ list_all (is_false trail.now) lits.now }
 {
-    lits.iter().all(|lit| marks.has_negation(*lit))
+    for lit in lits {
+        if !is_false(vars, rounds, round, trail, *lit) {
+            return false;
+        }
+    }
+    true
 }
 
 /// Makes what the hints imply true, one hint after another, and answers the first fault.
@@ -51,16 +60,21 @@ pub fn propagate(cnf: &Cnf, earlier: &[Line], hints: &[u32], marks: &mut Marks) 
     ensures fault { result ≡ hints_fault marks.old.trail (clauses_at (known cnf.now earlier.now) hints.now) }
     ensures trail { marks.new ≡ record marks.old { trail = trail_after marks.old.trail (clauses_at (known cnf.now earlier.now) hints.now) } }
 {
+    let vars = marks.vars();
     let Some((last, others)) = hints.split_last() else {
         return Some(LineWhy::NoHints);
     };
     for hint in others {
-        match unit_of(marks, clause_at(cnf, earlier, *hint as usize)) {
+        let clause = clause_at(cnf, earlier, *hint as usize);
+        let (rounds, round) = marks.falses();
+        match unit_of(vars, rounds, round, marks.trail(), clause) {
             None => return Some(LineWhy::NotUnit),
             Some(lit) => marks.add(lit),
         }
     }
-    if all_false(marks, clause_at(cnf, earlier, *last as usize)) {
+    let clause = clause_at(cnf, earlier, *last as usize);
+    let (rounds, round) = marks.falses();
+    if all_false(vars, rounds, round, marks.trail(), clause) {
         None
     } else {
         Some(LineWhy::NotFalse)

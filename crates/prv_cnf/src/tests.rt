@@ -51,11 +51,3 @@ fn keeps_the_literals_of_a_clause(rt: HostRuntime) -> Result<(), AllocError> {
     assert_eq!(rt; clause.lits(), wild.as_slice());
     Ok(())
 }
-
-#[test]
-fn an_empty_formula_has_every_model(rt: HostRuntime) {
-    let cnf = Cnf::new(rt.alloc(), 0);
-    assert!(rt; cnf.vars() == 0);
-    assert!(rt; cnf.holds(&[]));
-    assert_eq!(rt; cnf.clauses().len(), 0);
-}

@@ -4,4 +4,4 @@ use Rattle.prv_check.proofs.Propagating.{IsSole}
 use Rattle.prv_check.proofs.propagate.unit_of.Given as goal
 
 abbrev pub invariant-loop-lit : goal.invariant-loop-lit
-invariant-loop-lit l = IsSole l.found (unfalsified l.marks.trail (take l.lit-index l.lits))
+invariant-loop-lit l = IsSole l.found (unfalsified l.trail (take l.lit-index l.lits))
