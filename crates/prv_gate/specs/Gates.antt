@@ -53,9 +53,9 @@ HoldsOfInputs P (Parity a b c) = P a × P b × P c
 abbrev pub same_gate : Gate → Gate → Bool
 same_gate (And a b) (And c d) = same_literal a c && same_literal b d
 same_gate (Xor a b) (Xor c d) = same_literal a c && same_literal b d
-same_gate (Mux s a b) (Mux t c d) = same_literal s t && same_literal a c && same_literal b d
-same_gate (Majority a b c) (Majority d e f) = same_literal a d && same_literal b e && same_literal c f
-same_gate (Parity a b c) (Parity d e f) = same_literal a d && same_literal b e && same_literal c f
+same_gate (Mux s a b) (Mux t c d) = same_literal s t && (same_literal a c && same_literal b d)
+same_gate (Majority a b c) (Majority d e f) = same_literal a d && (same_literal b e && same_literal c f)
+same_gate (Parity a b c) (Parity d e f) = same_literal a d && (same_literal b e && same_literal c f)
 same_gate _ _ = false
 
 -- whether a literal is of a negated variable
