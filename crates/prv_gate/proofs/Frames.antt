@@ -71,3 +71,5 @@ and-first false b h = h
 pub and-second : (a b : Bool) → (a && b) ≡ true → b ≡ true
 and-second true b h = h
 and-second false b h = absurd cc
+
+pub ruleset literals = (IsLiteral-negate, variable-negate)

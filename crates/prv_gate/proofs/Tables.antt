@@ -1,16 +1,18 @@
 -- The clauses of a gate are true exactly where its output has the gate's value.
-use Rattle.std.proofs.Common.{◌≡◌, ℕ, suc, zero, ◌+◌, ◌<◌, ◌≤◌, Bool, true, false, not, cond, ◌&&◌, ◌||◌, List, [], ◌∷◌, length, refl, ap, sym, ◌∙◌, subst, arith}
+use Rattle.std.proofs.Common.{◌≡◌, ℕ, suc, zero, ◌+◌, ◌<◌, ◌≤◌, Bool, true, false, not, cond, ◌&&◌, ◌||◌, List, [], ◌∷◌, ◌++◌, length, refl, ap, sym, ◌∙◌, subst, arith}
 use Rattle.std.specs.List.{list_all, list_any, AllByRecursion}
 use Rattle.prv_cnf.specs.declared.literal.Lit.{Lit}
 use Rattle.prv_cnf.specs.Literals.{variable, negate, is_literal_true}
-use Rattle.prv_cnf.specs.Formulas.{IsLiteral}
-use Rattle.prv_cnf.specs.Models.{is_clause_true}
+use Rattle.prv_cnf.specs.Formulas.{Formula, IsLiteral}
+use Rattle.prv_cnf.specs.Models.{IsModel, is_clause_true}
 use Rattle.prv_cnf.proofs.Values.{is_literal_true-negate}
 use Rattle.prv_gate.specs.Gates.{differ, majority, gate_value, gate_clauses, HoldsOfInputs}
 use Rattle.prv_gate.specs.Growth.{Agrees}
+use Rattle.prv_gate.specs.Circuits.{Circuit, IsFreeGate, IsFreeLiteral}
 use Rattle.prv_gate.specs.declared.gate.Gate.{Gate}
 use Rattle.prv_gate.specs.declared.gate.Gate.TheVariants.{And, Xor, Mux, Majority, Parity}
-use Rattle.prv_gate.proofs.Frames.{IsLiteral-negate, literal-agree}
+use Rattle.prv_gate.proofs.Frames.{IsLiteral-negate, IsLiteral-more, literal-agree}
+use Rattle.prv_gate.proofs.Keeping.{IsModel-last}
 
 -- the bits are equal
 abbrev pub same : Bool → Bool → Bool
@@ -163,3 +165,14 @@ inputs-more (Xor a b) P Q f h = (f a h.0, f b h.1)
 inputs-more (Mux s a b) P Q f h = (f s h.0, f a h.1, f b h.2)
 inputs-more (Majority a b c) P Q f h = (f a h.0, f b h.1, f c h.2)
 inputs-more (Parity a b c) P Q f h = (f a h.0, f b h.1, f c h.2)
+
+-- where a formula has the clauses of a gate at its end, the output has the gate's value in each model
+pub output-value : (f g : Formula) (k : Gate) (o : Lit) → IsLiteral f.vars o → HoldsOfInputs (IsLiteral f.vars) k → g ≡ record f { clauses = f.clauses ++ gate_clauses k o } →
+    (v : ℕ → Bool) → IsModel v g → is_literal_true v o ≡ gate_value v k
+output-value f g k o ho h e v model =
+    let here : IsModel v (record f { clauses = f.clauses ++ gate_clauses k o }) = subst (IsModel v) e model in
+    same-eq (is_literal_true v o) (gate_value v k) (sym (gate_clauses-true f.vars v k o ho h) ∙ IsModel-last f (gate_clauses k o) v here)
+
+-- free inputs are literals, also where there is one more variable
+pub free_inputs-after : (s : Circuit) (g : Gate) → IsFreeGate s g → HoldsOfInputs (IsLiteral (s.formula.vars + 1)) g
+free_inputs-after s g h = inputs-more g (IsFreeLiteral s) (IsLiteral (s.formula.vars + 1)) (λ l k. IsLiteral-more s.formula.vars (s.formula.vars + 1) l (omega arith) k.0) h

@@ -1,5 +1,5 @@
 //! Gates made once each: the table of gates, and the clauses of a new one.
-ghost use Rattle.std.specs.Prelude.{◌≡◌, ◌+◌, ◌<◌, IfOk, OnOk};
+ghost use Rattle.std.specs.Prelude.{◌≡◌, ◌<◌, ◌≤◌, IfOk, OnOk};
 ghost use Rattle.prv_cnf.specs.Formulas.{IsLiteral};
 ghost use Rattle.prv_gate.specs.Gates.{gate_clauses, HoldsOfInputs};
 ghost use Rattle.prv_gate.specs.Circuits.{made, defined, find_gate, with_clauses, IsFreeGate};
@@ -7,11 +7,12 @@ ghost use Rattle.prv_gate.specs.declared.gate.Gate.TheVariants.{And, Xor, Mux, M
 
 use crate::builder::Builder;
 use crate::gate::Gate;
-use prv_cnf::Lit;
+use prv_cnf::{Lit, MAX_VARS};
 use std::alloc::AllocError;
 
 impl Builder {
     /// The output of a gate: that of the table, or a new variable's.
+    #[tactic(auto, unfolding(crate::specs::Circuits::made))]
     pub(crate) fn make(&mut self, gate: Gate) -> Result<Lit, AllocError>
         requires inside { IsFreeGate self.old gate }
         requires room { self.old.formula.vars < MAX_VARS }
@@ -40,6 +41,7 @@ impl Builder {
     fn push_gate(&mut self, gate: Gate, out: Lit) -> Result<(), AllocError>
         requires inside { HoldsOfInputs (IsLiteral self.old.formula.vars) gate }
         requires out { IsLiteral self.old.formula.vars out }
+        requires bound { self.old.formula.vars ≤ MAX_VARS }
         ensures { OnOk result (self.new ≡ with_clauses (gate_clauses gate out) self.old) }
     {
         match gate {
@@ -54,6 +56,7 @@ impl Builder {
     fn push_and(&mut self, a: Lit, b: Lit, out: Lit) -> Result<(), AllocError>
         requires inside { HoldsOfInputs (IsLiteral self.old.formula.vars) (And a b) }
         requires out { IsLiteral self.old.formula.vars out }
+        requires bound { self.old.formula.vars ≤ MAX_VARS }
         ensures { OnOk result (self.new ≡ with_clauses (gate_clauses (And a b) out) self.old) }
     {
         self.push(&[out.negated(), a])?;
@@ -64,6 +67,7 @@ impl Builder {
     fn push_xor(&mut self, a: Lit, b: Lit, out: Lit) -> Result<(), AllocError>
         requires inside { HoldsOfInputs (IsLiteral self.old.formula.vars) (Xor a b) }
         requires out { IsLiteral self.old.formula.vars out }
+        requires bound { self.old.formula.vars ≤ MAX_VARS }
         ensures { OnOk result (self.new ≡ with_clauses (gate_clauses (Xor a b) out) self.old) }
     {
         self.push(&[out.negated(), a, b])?;
@@ -75,6 +79,7 @@ impl Builder {
     fn push_mux(&mut self, s: Lit, a: Lit, b: Lit, out: Lit) -> Result<(), AllocError>
         requires inside { HoldsOfInputs (IsLiteral self.old.formula.vars) (Mux s a b) }
         requires out { IsLiteral self.old.formula.vars out }
+        requires bound { self.old.formula.vars ≤ MAX_VARS }
         ensures { OnOk result (self.new ≡ with_clauses (gate_clauses (Mux s a b) out) self.old) }
     {
         self.push(&[out.negated(), s.negated(), a])?;
@@ -86,6 +91,7 @@ impl Builder {
     fn push_majority(&mut self, a: Lit, b: Lit, c: Lit, out: Lit) -> Result<(), AllocError>
         requires inside { HoldsOfInputs (IsLiteral self.old.formula.vars) (Majority a b c) }
         requires out { IsLiteral self.old.formula.vars out }
+        requires bound { self.old.formula.vars ≤ MAX_VARS }
         ensures { OnOk result (self.new ≡ with_clauses (gate_clauses (Majority a b c) out) self.old) }
     {
         self.push(&[out.negated(), a, b])?;
@@ -99,6 +105,7 @@ impl Builder {
     fn push_parity(&mut self, a: Lit, b: Lit, c: Lit, out: Lit) -> Result<(), AllocError>
         requires inside { HoldsOfInputs (IsLiteral self.old.formula.vars) (Parity a b c) }
         requires out { IsLiteral self.old.formula.vars out }
+        requires bound { self.old.formula.vars ≤ MAX_VARS }
         ensures { OnOk result (self.new ≡ with_clauses (gate_clauses (Parity a b c) out) self.old) }
     {
         self.push(&[out.negated(), a, b, c])?;

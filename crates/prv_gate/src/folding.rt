@@ -13,6 +13,7 @@ use std::alloc::AllocError;
 
 impl Builder {
     /// Both literals are true.
+    #[tactic(auto, unfolding(crate::specs::Folding::and_of))]
     pub(crate) fn and_of(&mut self, a: Lit, b: Lit) -> Result<Bit, AllocError>
         requires first { IsFreeLiteral self.old a }
         requires second { IsFreeLiteral self.old b }
@@ -31,6 +32,7 @@ impl Builder {
     }
 
     /// One of the literals is true.
+    #[tactic(auto, unfolding(crate::specs::Folding::or_of))]
     pub(crate) fn or_of(&mut self, a: Lit, b: Lit) -> Result<Bit, AllocError>
         requires first { IsFreeLiteral self.old a }
         requires second { IsFreeLiteral self.old b }
@@ -42,6 +44,7 @@ impl Builder {
     }
 
     /// Both bits are true.
+    #[tactic(auto, unfolding(crate::specs::Folding::and_bits))]
     pub(crate) fn and_bits(&mut self, a: Bit, b: Bit) -> Result<Bit, AllocError>
         requires first { IsFree self.old a }
         requires second { IsFree self.old b }
@@ -58,6 +61,7 @@ impl Builder {
     }
 
     /// One of the bits is true.
+    #[tactic(auto, unfolding(crate::specs::Folding::or_bits))]
     pub(crate) fn or_bits(&mut self, a: Bit, b: Bit) -> Result<Bit, AllocError>
         requires first { IsFree self.old a }
         requires second { IsFree self.old b }
@@ -69,6 +73,7 @@ impl Builder {
     }
 
     /// The literals differ.
+    #[tactic(auto, unfolding(crate::specs::Folding::xor_of))]
     pub(crate) fn xor_of(&mut self, a: Lit, b: Lit) -> Result<Bit, AllocError>
         requires first { IsFreeLiteral self.old a }
         requires second { IsFreeLiteral self.old b }
@@ -85,6 +90,7 @@ impl Builder {
     }
 
     /// The bits differ.
+    #[tactic(auto, unfolding(crate::specs::Folding::xor_bits))]
     pub(crate) fn xor_bits(&mut self, a: Bit, b: Bit) -> Result<Bit, AllocError>
         requires first { IsFree self.old a }
         requires second { IsFree self.old b }

@@ -1,5 +1,5 @@
 //! The gates: each first takes its operands as what is known of them.
-ghost use Rattle.std.specs.Prelude.{◌≡◌, ◌+◌, ◌≤◌, ◌&&◌, Bool, IfOk, OnOk, if◌then◌else◌};
+ghost use Rattle.std.specs.Prelude.{◌≡◌, ◌+◌, ◌<◌, ◌≤◌, ◌&&◌, Bool, IfOk, OnOk, if◌then◌else◌};
 ghost use Rattle.prv_gate.specs.Bits.{IsBit, bit_value};
 ghost use Rattle.prv_gate.specs.Gates.{differ, majority as majority_value};
 ghost use Rattle.prv_gate.specs.Folding.{and_gate, xor_gate, mux_gate, majority_gate, sum_gate, full_adder as adder_run};

@@ -12,6 +12,7 @@ use std::alloc::AllocError;
 
 impl Builder {
     /// The majority of three literals in order, of which the first is made positive.
+    #[tactic(auto, unfolding(crate::specs::Folding::majority_made))]
     fn majority_made(&mut self, a: Lit, b: Lit, c: Lit) -> Result<Bit, AllocError>
         requires first { IsFreeLiteral self.old a }
         requires second { IsFreeLiteral self.old b }
@@ -28,6 +29,7 @@ impl Builder {
     }
 
     /// The majority of three literals, which are put in order.
+    #[tactic(auto, unfolding(crate::specs::Folding::majority_ordered))]
     fn majority_ordered(&mut self, a: Lit, b: Lit, c: Lit) -> Result<Bit, AllocError>
         requires first { IsFreeLiteral self.old a }
         requires second { IsFreeLiteral self.old b }
@@ -42,6 +44,7 @@ impl Builder {
     }
 
     /// At least two of the literals are true.
+    #[tactic(auto, unfolding(crate::specs::Folding::majority_of))]
     fn majority_of(&mut self, a: Lit, b: Lit, c: Lit) -> Result<Bit, AllocError>
         requires first { IsFreeLiteral self.old a }
         requires second { IsFreeLiteral self.old b }
@@ -71,6 +74,7 @@ impl Builder {
     }
 
     /// At least two of the bits are true.
+    #[tactic(auto, unfolding(crate::specs::Folding::majority_bits))]
     pub(crate) fn majority_bits(&mut self, a: Bit, b: Bit, c: Bit) -> Result<Bit, AllocError>
         requires first { IsFree self.old a }
         requires second { IsFree self.old b }
@@ -90,6 +94,7 @@ impl Builder {
     }
 
     /// The bits are equal.
+    #[tactic(auto, unfolding(crate::specs::Folding::equal_bits))]
     fn equal_bits(&mut self, a: Bit, b: Bit) -> Result<Bit, AllocError>
         requires first { IsFree self.old a }
         requires second { IsFree self.old b }
@@ -101,6 +106,7 @@ impl Builder {
     }
 
     /// An odd number of the literals is true.
+    #[tactic(auto, unfolding(crate::specs::Folding::parity_of))]
     fn parity_of(&mut self, a: Lit, b: Lit, c: Lit) -> Result<Bit, AllocError>
         requires first { IsFreeLiteral self.old a }
         requires second { IsFreeLiteral self.old b }
@@ -113,6 +119,7 @@ impl Builder {
     }
 
     /// An odd number of the bits is true, by one gate.
+    #[tactic(auto, unfolding(crate::specs::Folding::parity_bits))]
     pub(crate) fn parity_bits(&mut self, a: Bit, b: Bit, c: Bit) -> Result<Bit, AllocError>
         requires first { IsFree self.old a }
         requires second { IsFree self.old b }

@@ -12,6 +12,7 @@ use std::alloc::AllocError;
 
 impl Builder {
     /// A choice between two literals whose first is made positive.
+    #[tactic(auto, unfolding(crate::specs::Folding::mux_made))]
     fn mux_made(&mut self, c: Lit, a: Lit, b: Lit) -> Result<Bit, AllocError>
         requires selector { IsFreeLiteral self.old c }
         requires first { IsFreeLiteral self.old a }
@@ -28,6 +29,7 @@ impl Builder {
     }
 
     /// A choice between two literals by a selector that is made positive.
+    #[tactic(auto, unfolding(crate::specs::Folding::mux_signed))]
     fn mux_signed(&mut self, c: Lit, a: Lit, b: Lit) -> Result<Bit, AllocError>
         requires selector { IsFreeLiteral self.old c }
         requires first { IsFreeLiteral self.old a }
@@ -42,6 +44,7 @@ impl Builder {
     }
 
     /// The first literal chooses between the others.
+    #[tactic(auto, unfolding(crate::specs::Folding::mux_of))]
     fn mux_of(&mut self, c: Lit, a: Lit, b: Lit) -> Result<Bit, AllocError>
         requires selector { IsFreeLiteral self.old c }
         requires first { IsFreeLiteral self.old a }
@@ -72,6 +75,7 @@ impl Builder {
     }
 
     /// The first bit chooses between the others.
+    #[tactic(auto, unfolding(crate::specs::Folding::mux_bits))]
     pub(crate) fn mux_bits(&mut self, c: Bit, a: Bit, b: Bit) -> Result<Bit, AllocError>
         requires selector { IsFree self.old c }
         requires first { IsFree self.old a }
