@@ -7,6 +7,7 @@ use Rattle.prv_cnf.specs.Formulas.{Formula, IsFormula, IsLiteral}
 use Rattle.prv_cnf.specs.Models.{IsModel, is_clause_true}
 use Rattle.prv_cnf.specs.declared.formula.TheConstants.{MAX_VARS}
 use Rattle.std.specs.Result.{OnOk, OnErr}
+use Rattle.std.specs.Option.{IfSome}
 use Rattle.indexmap.specs.IndexMap.{insert_entry}
 use Rattle.prv_cnf.proofs.Values.{same_literal-eq}
 use Rattle.prv_gate.specs.Gates.{gate_value, same_gate}
@@ -52,7 +53,7 @@ pub IsCircuit-clauses : (cs : List (List Lit)) (s : Circuit) → AllByRecursion 
 IsCircuit-clauses cs s inside h = record {
   formula = IsFormula-clauses s.formula cs inside h.formula;
   gates = λ g o found. ((h.gates g o found).0, λ v model. (h.gates g o found).1 v (IsModel-first s.formula cs v model));
-  known = λ k b is v model. h.known k b is v (IsModel-first s.formula cs v model);
+  known = λ k b some is v model. h.known k b some is v (IsModel-first s.formula cs v model);
   ended = λ is v model. h.ended is v (IsModel-first s.formula cs v model);
 }
 
@@ -126,3 +127,8 @@ insert_entry-gate eq g o (x ∷ xs) same none =
 pub after_change : {A T E : Type 0} (P : A → Type 0) (r : Result T E) (new a b : A) → OnOk r (new ≡ a) → OnErr r (new ≡ b) → P a → P b → P new
 after_change P (Ok x) new a b ok err pa pb = subst P (sym ok) pa
 after_change P (Err e) new a b ok err pa pb = subst P (sym err) pb
+
+-- the output of a gate in the table is of the formula
+pub found-inside : (s : Circuit) → IsCircuit s → (g : Gate) (r : Option Lit) → r ≡ find_gate g s.gates → IfSome r (λ o. IsLiteral s.formula.vars o)
+found-inside s h g None e = tt
+found-inside s h g (Some o) e = (h.gates g o (sym e)).0

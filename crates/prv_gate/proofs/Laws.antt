@@ -18,14 +18,14 @@ use Rattle.prv_gate.proofs.Triples.{mux_bits-step, majority_bits-step, parity_bi
 
 -- what is known of a bit
 pub known_bit-gives : (b : Bit) (s : Circuit) → IsCircuit s → IsBit s.formula.vars b → Gives IsBit bit_value 0 s (known_bit b s) (λ v. bit_value v b)
-known_bit-gives b s h hb = gives-here IsBit bit_value 0 s (reduced s.known b) (λ v. bit_value v b) h (reduced-inside s.formula.vars s.known b hb) (λ v model. reduced-value s h v model b)
+known_bit-gives b s h hb = gives-here IsBit bit_value 0 s (reduced s.known b) (λ v. bit_value v b) h (reduced-inside s.formula.vars s.known b hb) (λ v model. reduced-value s h v model b hb)
 
 module _ (a b : Bit) (s : Circuit) (h : IsCircuit s) (ha : IsBit s.formula.vars a) (hb : IsBit s.formula.vars b) (room : s.formula.vars < MAX_VARS) where
   and_gate-step : Step 3 s (and_gate a b s) (λ v. bit_value v a && bit_value v b)
   unfolding and_gate
   and_gate-step =
       step-value 3 s _ (λ v. bit_value v (reduced s.known a) && bit_value v (reduced s.known b)) _
-      (λ v model. rw (reduced-value s h v model a, reduced-value s h v model b) refl)
+      (λ v model. rw (reduced-value s h v model a ha, reduced-value s h v model b hb) refl)
       (and_bits-step s h room (reduced s.known a) (reduced s.known b) (reduced-inside s.formula.vars s.known a ha) (reduced-inside s.formula.vars s.known b hb))
 
   pub and_gate-gives : Gives IsBit bit_value 3 s (and_gate a b s) (λ v. bit_value v a && bit_value v b)
@@ -38,7 +38,7 @@ module _ (a b : Bit) (s : Circuit) (h : IsCircuit s) (ha : IsBit s.formula.vars 
   unfolding xor_gate
   xor_gate-step =
       step-value 4 s _ (λ v. differ (bit_value v (reduced s.known a)) (bit_value v (reduced s.known b))) _
-      (λ v model. rw (reduced-value s h v model a, reduced-value s h v model b) refl)
+      (λ v model. rw (reduced-value s h v model a ha, reduced-value s h v model b hb) refl)
       (xor_bits-step s h room (reduced s.known a) (reduced s.known b) (reduced-inside s.formula.vars s.known a ha) (reduced-inside s.formula.vars s.known b hb))
 
   pub xor_gate-gives : Gives IsBit bit_value 4 s (xor_gate a b s) (λ v. differ (bit_value v a) (bit_value v b))
@@ -52,7 +52,7 @@ module _ (a b c : Bit) (s : Circuit) (h : IsCircuit s) (ha : IsBit s.formula.var
   unfolding mux_gate
   mux_gate-step =
       step-value 4 s _ (λ v. if bit_value v (reduced s.known a) then bit_value v (reduced s.known b) else bit_value v (reduced s.known c)) _
-      (λ v model. rw (reduced-value s h v model a, reduced-value s h v model b, reduced-value s h v model c) refl)
+      (λ v model. rw (reduced-value s h v model a ha, reduced-value s h v model b hb, reduced-value s h v model c hc) refl)
       (mux_bits-step s h room (reduced s.known a) (reduced s.known b) (reduced s.known c)
       (reduced-inside s.formula.vars s.known a ha) (reduced-inside s.formula.vars s.known b hb) (reduced-inside s.formula.vars s.known c hc))
 
@@ -67,7 +67,7 @@ module _ (a b c : Bit) (s : Circuit) (h : IsCircuit s) (ha : IsBit s.formula.var
   unfolding majority_gate
   majority_gate-step =
       step-value 6 s _ (λ v. majority (bit_value v (reduced s.known a)) (bit_value v (reduced s.known b)) (bit_value v (reduced s.known c))) _
-      (λ v model. rw (reduced-value s h v model a, reduced-value s h v model b, reduced-value s h v model c) refl)
+      (λ v model. rw (reduced-value s h v model a ha, reduced-value s h v model b hb, reduced-value s h v model c hc) refl)
       (majority_bits-step s h room (reduced s.known a) (reduced s.known b) (reduced s.known c)
       (reduced-inside s.formula.vars s.known a ha) (reduced-inside s.formula.vars s.known b hb) (reduced-inside s.formula.vars s.known c hc))
 
@@ -82,7 +82,7 @@ module _ (a b c : Bit) (s : Circuit) (h : IsCircuit s) (ha : IsBit s.formula.var
       (λ v. differ (differ (bit_value v a) (bit_value v b)) (bit_value v c))
   parity-gives room =
       (step-value 8 s _ (λ v. differ (differ (bit_value v (reduced s.known a)) (bit_value v (reduced s.known b))) (bit_value v (reduced s.known c))) _
-      (λ v model. rw (reduced-value s h v model a, reduced-value s h v model b, reduced-value s h v model c) refl)
+      (λ v model. rw (reduced-value s h v model a ha, reduced-value s h v model b hb, reduced-value s h v model c hc) refl)
       (parity_bits-step s h room (reduced s.known a) (reduced s.known b) (reduced s.known c)
       (reduced-inside s.formula.vars s.known a ha) (reduced-inside s.formula.vars s.known b hb) (reduced-inside s.formula.vars s.known c hc))).gives
 

@@ -108,17 +108,21 @@ step-made c s g flag h inside room one cost =
 pub ordered-cases : (a b : Lit) (P : Lit × Lit → Type 0) → P (a, b) → P (b, a) → P (ordered a b)
 ordered-cases a b P x y = elim (nat_le (variable a) (variable b)) as (λ t. P (if t then (a, b) else (b, a))) [ true ↦ x | false ↦ y ]
 
--- what is known of a literal is its value in each model
-signed_known-value : (s : Circuit) → IsCircuit s → (v : ℕ → Bool) → IsModel v s.formula → (z : ℤ) (b : Bool) → signed_known s.known z ≡ Some b → signed_value v z ≡ b
-signed_known-value s h v model (pos k) b is = h.known k b is v model
-signed_known-value s h v model (negsuc k) b is = by (known_value s.known (suc k)) refl is
-  where
-    by : (r : Option Bool) → known_value s.known (suc k) ≡ r → option_map not r ≡ Some b → not (v (suc k)) ≡ b
-    by None e found = absurd cc
-    by (Some x) e found = let value : v (suc k) ≡ x = h.known (suc k) x e v model in let end : not x ≡ b = cc in rw value end
+-- what is known of variables is their value
+abbrev pub IsKnown : (ℕ → Bool) → List (Option Bool) → Type 0
+IsKnown v known = (k : ℕ) (b : Bool) → 0 < k → known_value known k ≡ Some b → v k ≡ b
 
-pub known_literal-value : (s : Circuit) → IsCircuit s → (v : ℕ → Bool) → IsModel v s.formula → (l : Lit) (b : Bool) → known_literal s.known l ≡ Some b → is_literal_true v l ≡ b
-known_literal-value s h v model l b is = signed_known-value s h v model l.0 b is
+-- what is known of a literal is its value
+signed_known-value : (v : ℕ → Bool) (known : List (Option Bool)) → IsKnown v known → (z : ℤ) (b : Bool) → 0 < unsigned_abs z → signed_known known z ≡ Some b → signed_value v z ≡ b
+signed_known-value v known h (pos k) b some is = h k b some is
+signed_known-value v known h (negsuc k) b some is = by (known_value known (suc k)) refl is
+  where
+    by : (r : Option Bool) → known_value known (suc k) ≡ r → option_map not r ≡ Some b → not (v (suc k)) ≡ b
+    by None e found = absurd cc
+    by (Some x) e found = let value : v (suc k) ≡ x = h (suc k) x some e in let end : not x ≡ b = cc in rw value end
+
+pub known_literal-value : (v : ℕ → Bool) (known : List (Option Bool)) → IsKnown v known → (l : Lit) (b : Bool) → 0 < variable l → known_literal known l ≡ Some b → is_literal_true v l ≡ b
+known_literal-value v known h l b some is = signed_known-value v known h l.0 b some is
 
 pub reduced-inside : (n : ℕ) (known : List (Option Bool)) (b : Bit) → IsBit n b → IsBit n (reduced known b)
 reduced-inside n known False h = tt
@@ -129,11 +133,14 @@ reduced-inside n known (Literal l) h = by (known_literal known l)
     by None = h
     by (Some x) = constant-inside n x
 
-pub reduced-value : (s : Circuit) → IsCircuit s → (v : ℕ → Bool) → IsModel v s.formula → (b : Bit) → bit_value v (reduced s.known b) ≡ bit_value v b
-reduced-value s h v model False = refl
-reduced-value s h v model True = refl
-reduced-value s h v model (Literal l) = by (known_literal s.known l) refl
+pub reduced-value-known : (n : ℕ) (v : ℕ → Bool) (known : List (Option Bool)) → IsKnown v known → (b : Bit) → IsBit n b → bit_value v (reduced known b) ≡ bit_value v b
+reduced-value-known n v known h False inside = refl
+reduced-value-known n v known h True inside = refl
+reduced-value-known n v known h (Literal l) inside = by (known_literal known l) refl
   where
-    by : (r : Option Bool) → known_literal s.known l ≡ r → bit_value v (option_map_or constant r (Literal l)) ≡ is_literal_true v l
+    by : (r : Option Bool) → known_literal known l ≡ r → bit_value v (option_map_or constant r (Literal l)) ≡ is_literal_true v l
     by None e = refl
-    by (Some x) e = constant-value v x ∙ sym (known_literal-value s h v model l x e)
+    by (Some x) e = constant-value v x ∙ sym (known_literal-value v known h l x inside.0 e)
+
+pub reduced-value : (s : Circuit) → IsCircuit s → (v : ℕ → Bool) → IsModel v s.formula → (b : Bit) → IsBit s.formula.vars b → bit_value v (reduced s.known b) ≡ bit_value v b
+reduced-value s h v model b inside = reduced-value-known s.formula.vars v s.known (λ k x some is. h.known k x some is v model) b inside

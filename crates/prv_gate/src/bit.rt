@@ -14,9 +14,11 @@ pub enum Bit {
 
 impl Bit {
     /// The bit with the other value.
+    #[tactic(auto, using(crate::proofs::Frames::literals))]
     pub fn negated(self) -> Bit
         requires { IsBit MAX_VARS self }
-        ensures { result ≡ negate_bit self }
+        ensures value { result ≡ negate_bit self }
+        ensures inside { IsBit MAX_VARS result }
     {
         match self {
             Bit::False => Bit::True,
@@ -28,7 +30,8 @@ impl Bit {
     /// The bit, with the other value where the flag is set.
     pub(crate) fn flipped(self, flag: bool) -> Bit
         requires { IsBit MAX_VARS self }
-        ensures { result ≡ flip_bit flag self }
+        ensures value { result ≡ flip_bit flag self }
+        ensures inside { IsBit MAX_VARS result }
     {
         if flag { self.negated() } else { self }
     }

@@ -1,4 +1,4 @@
-ghost use Rattle.std.specs.Prelude.{◌≡◌, ◌+◌, ◌<◌, ◌≤◌, ℕ, Bool, None, List, [], ◌∷◌, IfOk, OnOk};
+ghost use Rattle.std.specs.Prelude.{◌≡◌, ◌+◌, ◌<◌, ◌≤◌, ℕ, Bool, None, List, [], ◌∷◌, IfOk, IfSome, OnOk};
 ghost use Rattle.std.specs.List.{AllByRecursion};
 ghost use Rattle.prv_cnf.specs.Formulas.{IsLiteral};
 ghost use Rattle.prv_cnf.specs.Literals.{is_literal_true};
@@ -120,7 +120,8 @@ impl Builder {
 
     /// The output of a gate that was made before.
     pub(crate) fn find(&self, gate: Gate) -> Option<Lit>
-        ensures { result ≡ find_gate gate self.now.gates }
+        ensures value { result ≡ find_gate gate self.now.gates }
+        ensures inside { IfSome result (λ out. IsLiteral self.now.formula.vars out) }
     {
         self.gates.get(&gate).copied()
     }

@@ -16,7 +16,8 @@ impl Builder {
     pub(crate) fn make(&mut self, gate: Gate) -> Result<Lit, AllocError>
         requires inside { IsFreeGate self.old gate }
         requires room { self.old.formula.vars < MAX_VARS }
-        ensures { IfOk result (λ out. record { out = out; circuit = self.new } ≡ made gate self.old) }
+        ensures run { IfOk result (λ out. record { out = out; circuit = self.new } ≡ made gate self.old) }
+        ensures inside { IfOk result (λ out. IsLiteral MAX_VARS out) }
     {
         match self.find(gate) {
             Some(out) => Ok(out),

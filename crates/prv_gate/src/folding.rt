@@ -1,6 +1,7 @@
 //! Gates of two inputs of which nothing is known: those that fold, and those that are made.
-ghost use Rattle.std.specs.Prelude.{◌≡◌, ◌<◌, ◌≤◌, IfOk, Bool};
+ghost use Rattle.std.specs.Prelude.{◌≡◌, ◌<◌, ◌≤◌, IfOk};
 ghost use Rattle.prv_cnf.specs.Literals.{variable, negate, same_literal};
+ghost use Rattle.prv_gate.specs.Bits.{IsBit};
 ghost use Rattle.prv_gate.specs.Gates.{positive as positive_of, ordered as ordered_pair, is_negative as is_negative_literal};
 ghost use Rattle.prv_gate.specs.Circuits.{IsFree, IsFreeLiteral, IsFreeGate};
 ghost use Rattle.prv_gate.specs.Folding.{and_of as and_run, or_of as or_run, and_bits as and_bits_run, or_bits as or_bits_run, xor_of as xor_run, xor_bits as xor_bits_run};
@@ -18,7 +19,8 @@ impl Builder {
         requires first { IsFreeLiteral self.old a }
         requires second { IsFreeLiteral self.old b }
         requires room { self.old.formula.vars < MAX_VARS }
-        ensures { IfOk result (λ out. record { out = out; circuit = self.new } ≡ and_run a b self.old) }
+        ensures run { IfOk result (λ out. record { out = out; circuit = self.new } ≡ and_run a b self.old) }
+        ensures inside { IfOk result (λ out. IsBit MAX_VARS out) }
     {
         if a == b {
             return Ok(Bit::Lit(a));
@@ -49,7 +51,8 @@ impl Builder {
         requires first { IsFree self.old a }
         requires second { IsFree self.old b }
         requires room { self.old.formula.vars < MAX_VARS }
-        ensures { IfOk result (λ out. record { out = out; circuit = self.new } ≡ and_bits_run a b self.old) }
+        ensures run { IfOk result (λ out. record { out = out; circuit = self.new } ≡ and_bits_run a b self.old) }
+        ensures inside { IfOk result (λ out. IsBit MAX_VARS out) }
     {
         match (a, b) {
             (Bit::False, _) => Ok(Bit::False),
@@ -78,7 +81,8 @@ impl Builder {
         requires first { IsFreeLiteral self.old a }
         requires second { IsFreeLiteral self.old b }
         requires room { self.old.formula.vars < MAX_VARS }
-        ensures { IfOk result (λ out. record { out = out; circuit = self.new } ≡ xor_run a b self.old) }
+        ensures run { IfOk result (λ out. record { out = out; circuit = self.new } ≡ xor_run a b self.old) }
+        ensures inside { IfOk result (λ out. IsBit MAX_VARS out) }
     {
         let differ = is_negative(a) != is_negative(b);
         if a.variable() == b.variable() {
@@ -95,7 +99,8 @@ impl Builder {
         requires first { IsFree self.old a }
         requires second { IsFree self.old b }
         requires room { self.old.formula.vars < MAX_VARS }
-        ensures { IfOk result (λ out. record { out = out; circuit = self.new } ≡ xor_bits_run a b self.old) }
+        ensures run { IfOk result (λ out. record { out = out; circuit = self.new } ≡ xor_bits_run a b self.old) }
+        ensures inside { IfOk result (λ out. IsBit MAX_VARS out) }
     {
         match (a, b) {
             (Bit::False, b) => Ok(b),
