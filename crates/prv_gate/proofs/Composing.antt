@@ -1,9 +1,10 @@
 -- Steps one after another: what they add, and what their answers mean.
-use Rattle.std.proofs.Common.{◌≡◌, ℕ, suc, zero, ◌+◌, ◌<◌, ◌≤◌, Bool, true, false, not, List, [], ◌∷◌, length, refl, ap, sym, ◌∙◌, subst, arith, IsTrue}
+use Rattle.std.proofs.Common.{◌≡◌, ℕ, suc, zero, ◌+◌, ◌<◌, ◌≤◌, Bool, true, false, not, List, [], ◌∷◌, length, refl, ap, sym, ◌∙◌, subst, arith, IsTrue, Result, Ok, Err}
+use Rattle.std.specs.Result.{OnOk, IfOk}
 use Rattle.prv_cnf.specs.Formulas.{IsLiteral}
 use Rattle.prv_cnf.specs.Models.{IsModel}
 use Rattle.prv_gate.specs.Bits.{IsBit, bit_value, negate_bit}
-use Rattle.prv_gate.specs.Circuits.{Circuit, Run, give, IsCircuit}
+use Rattle.prv_gate.specs.Circuits.{Circuit, Run, give, and_then, IsCircuit}
 use Rattle.prv_gate.specs.Growth.{Agrees, Grows, Gives}
 use Rattle.prv_gate.specs.declared.bit.Bit.{Bit}
 use Rattle.prv_gate.specs.declared.bit.Bit.TheVariants.{False, True, Lit as Literal}
@@ -90,3 +91,25 @@ module _ {A B : Type 0} (Inside : ℕ → A → Type 0) (read : (ℕ → Bool) �
   pub gives-value-after : (c : ℕ) (s : Circuit) (r : Run A) (f g : (ℕ → Bool) → B) → ((v : ℕ → Bool) → IsModel v r.circuit.formula → f v ≡ g v) →
       Gives Inside read c s r f → Gives Inside read c s r g
   gives-value-after c s r f g same h = record { grows = h.grows; inside = h.inside; value = λ v model. h.value v model ∙ same v model }
+
+-- what holds of a run that a call is to make holds of what it made
+pub of_run : {A E : Type 0} (P : Run A → Type 0) (r : Result A E) (new : Circuit) (run : Run A) → IfOk r (λ out. record { out = out; circuit = new } ≡ run) → P run →
+    IfOk r (λ out. P (record { out = out; circuit = new }))
+of_run P (Ok x) new run e p = subst P (sym e) p
+of_run P (Err x) new run e p = tt
+
+pub of_circuit : {A E : Type 0} (P : Circuit → Type 0) (r : Result A E) (new : Circuit) (run : Run A) → IfOk r (λ out. record { out = out; circuit = new } ≡ run) → P run.circuit →
+    OnOk r (P new)
+of_circuit {A} P (Ok x) new run e p = let circuit_of : Run A → Circuit = λ q. q.circuit in subst P (sym (ap circuit_of e)) p
+of_circuit P (Err x) new run e p = tt
+
+-- a call after another makes the second step after the first
+pub run_after : {A B E : Type 0} (r : Result B E) (new : Circuit) (x : A) (s : Circuit) (first : Run A) (next : A → Circuit → Run B) → record { out = x; circuit = s } ≡ first →
+    IfOk r (λ out. record { out = out; circuit = new } ≡ next x s) → IfOk r (λ out. record { out = out; circuit = new } ≡ and_then first next)
+run_after {A} {B} (Ok y) new x s first next e f = let step : Run A → Run B = λ q. next q.out q.circuit in f ∙ ap step e
+run_after (Err y) new x s first next e f = tt
+
+-- the run under another name
+pub run_as : {A E : Type 0} (r : Result A E) (new : Circuit) (p q : Run A) → p ≡ q → IfOk r (λ out. record { out = out; circuit = new } ≡ p) → IfOk r (λ out. record { out = out; circuit = new } ≡ q)
+run_as (Ok y) new p q e f = f ∙ e
+run_as (Err y) new p q e f = tt

@@ -45,6 +45,7 @@ IsCircuit-variable s room h = record {
   formula = IsFormula-variable s.formula room h.formula;
   gates = λ g o found. (IsLiteral-more s.formula.vars (s.formula.vars + 1) o (omega arith) (h.gates g o found).0, (h.gates g o found).1);
   known = h.known;
+  size = omega (arith, h.size);
   ended = h.ended;
 }
 
@@ -54,6 +55,7 @@ IsCircuit-clauses cs s inside h = record {
   formula = IsFormula-clauses s.formula cs inside h.formula;
   gates = λ g o found. ((h.gates g o found).0, λ v model. (h.gates g o found).1 v (IsModel-first s.formula cs v model));
   known = λ k b some is v model. h.known k b some is v (IsModel-first s.formula cs v model);
+  size = h.size;
   ended = λ is v model. h.ended is v (IsModel-first s.formula cs v model);
 }
 
@@ -110,6 +112,7 @@ IsCircuit-gate g o s inside value h = record {
       (λ new. (subst (IsLiteral s.formula.vars) new.1 inside, λ v model. ap (is_literal_true v) (sym new.1) ∙ value v model ∙ sym (same_gate-value v k g new.0)))
       (find_gate-more g k o p s.gates found);
   known = h.known;
+  size = h.size;
   ended = h.ended;
 }
 

@@ -77,6 +77,17 @@ module _ (a b c : Bit) (s : Circuit) (h : IsCircuit s) (ha : IsBit s.formula.var
   pub majority_gate-vars : (majority_gate a b c s).circuit.formula.vars ≤ s.formula.vars + 1
   majority_gate-vars = majority_gate-step.one
 
+-- the answers of two steps, together
+pub pair-gives : (c d : ℕ) (s : Circuit) (p q : Run Bit) (f g : (ℕ → Bool) → Bool) → Gives IsBit bit_value c s p f → Gives IsBit bit_value d p.circuit q g →
+    Gives AreBits bit_values (c + d) s (give (p.out, q.out) q.circuit) (λ v. (f v, g v))
+pair-gives c d s p q f g first second = record {
+  grows = grows-then c d s p.circuit q.circuit first.grows second.grows;
+  inside = (bit-more p.circuit.formula.vars q.circuit.formula.vars p.out second.grows.vars_kept first.inside, second.inside);
+  value = λ v model.
+      ap (λ (x : Bool). (x, bit_value v q.out)) (first.value v (second.grows.restricts v model))
+      ∙ ap (λ (x : Bool). (f v, x)) (second.value v model);
+}
+
 module _ (a b c : Bit) (s : Circuit) (h : IsCircuit s) (ha : IsBit s.formula.vars a) (hb : IsBit s.formula.vars b) (hc : IsBit s.formula.vars c) where
   parity-gives : s.formula.vars < MAX_VARS → Gives IsBit bit_value 8 s (parity_bits (reduced s.known a) (reduced s.known b) (reduced s.known c) s)
       (λ v. differ (differ (bit_value v a) (bit_value v b)) (bit_value v c))
@@ -139,10 +150,20 @@ module _ (a b c : Bit) (s : Circuit) (h : IsCircuit s) (ha : IsBit s.formula.var
         let low = sum_gate-gives in
         let t = (sum_gate a b c s).circuit in
         let carry = majority_gate-gives a b c t low.grows.circuit (bit-kept 8 s t a low.grows ha) (bit-kept 8 s t b low.grows hb) (bit-kept 8 s t c low.grows hc) sum_gate-vars in
-        record {
-          grows = grows-then 8 6 s t _ low.grows carry.grows;
-          inside = (bit-more t.formula.vars _ (sum_gate a b c s).out carry.grows.vars_kept low.inside, carry.inside);
-          value = λ v model.
-              ap (λ (x : Bool). (x, bit_value v (majority_gate a b c t).out)) (low.value v (carry.grows.restricts v model))
-              ∙ ap (λ (x : Bool). (differ (differ (bit_value v a) (bit_value v b)) (bit_value v c), x)) (carry.value v model);
-        }
+        pair-gives 8 6 s _ _ _ _ low carry
+
+-- the sum by two gates, and by one
+pub sum_gate-two : (a b c : Bit) (s : Circuit) → s.formula.vars + 2 < MAX_VARS → and_then (xor_gate a b s) (λ x. xor_gate x c) ≡ sum_gate a b c s
+unfolding sum_gate
+sum_gate-two a b c s less =
+    let test : nat_lt (s.formula.vars + 2) MAX_VARS ≡ true = (Decides-ltb (s.formula.vars + 2) MAX_VARS).1 less in
+    ap (λ (t : Bool). if t then and_then (xor_gate a b s) (λ x. xor_gate x c) else parity_bits (reduced s.known a) (reduced s.known b) (reduced s.known c) s) (sym test)
+
+pub sum_gate-one : (a b c : Bit) (s : Circuit) → MAX_VARS ≤ s.formula.vars + 2 → parity_bits (reduced s.known a) (reduced s.known b) (reduced s.known c) s ≡ sum_gate a b c s
+unfolding sum_gate
+sum_gate-one a b c s most =
+    ap (λ (t : Bool). if t then and_then (xor_gate a b s) (λ x. xor_gate x c) else parity_bits (reduced s.known a) (reduced s.known b) (reduced s.known c) s) (sym (by (nat_lt (s.formula.vars + 2) MAX_VARS) refl))
+  where
+    by : (t : Bool) → nat_lt (s.formula.vars + 2) MAX_VARS ≡ t → nat_lt (s.formula.vars + 2) MAX_VARS ≡ false
+    by true e = let less : s.formula.vars + 2 < MAX_VARS = (Decides-ltb (s.formula.vars + 2) MAX_VARS).0 e in absurd (omega arith)
+    by false e = e

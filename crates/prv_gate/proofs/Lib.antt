@@ -8,3 +8,4 @@ pub mod Steps
 pub mod Pairs
 pub mod Triples
 pub mod Laws
+pub mod Asserting

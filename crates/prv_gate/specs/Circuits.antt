@@ -1,5 +1,5 @@
 -- Circuits: the formula made so far, the gates in it, and what is known of its variables.
-use Rattle.std.specs.Prelude.{◌≡◌, ℕ, ◌+◌, ◌<◌, pos, Bool, true, false, List, [], ◌∷◌, ◌++◌, Option, None, Some}
+use Rattle.std.specs.Prelude.{◌≡◌, ℕ, ◌+◌, ◌<◌, ◌≤◌, length, pos, Bool, true, false, List, [], ◌∷◌, ◌++◌, Option, None, Some}
 use Rattle.std.specs.Map.{lookup}
 use Rattle.std.specs.Option.{option_map_or}
 use Rattle.prv_cnf.specs.declared.literal.Lit.{Lit}
@@ -100,4 +100,5 @@ pub record IsCircuit (s : Circuit) : Type 0 where
       IsLiteral s.formula.vars o × ((v : ℕ → Bool) → IsModel v s.formula → is_literal_true v o ≡ gate_value v g)
   pub known : (k : ℕ) (b : Bool) → 0 < k → known_value s.known k ≡ Some b →
       (v : ℕ → Bool) → IsModel v s.formula → v k ≡ b
+  pub size : length s.known ≤ s.formula.vars
   pub ended : s.is_ended ≡ true → HasNoModel s.formula

@@ -35,9 +35,9 @@ abbrev pub known_after : Formula → ℕ → List (Option Bool) → List (Option
 known_after f zero known = known
 known_after f (suc n) known = next_known f (known_after f n known)
 
--- all that follows: after as many rounds as there are variables, none finds more
+-- all that follows: after one round more than there are variables, none finds more
 unfoldable pub closure : Formula → List (Option Bool) → List (Option Bool)
-closure f known = known_after f f.vars known
+closure f known = known_after f (f.vars + 1) known
 
 -- some clause has only literals that are known to be false
 abbrev pub has_conflict : List (List Lit) → List (Option Bool) → Bool

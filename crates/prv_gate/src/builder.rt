@@ -80,7 +80,9 @@ impl Builder {
         requires { IsBit self.now.formula.vars bit }
         ensures value { result ≡ reduced self.now.known bit }
         ensures free { IsFree self.now result }
+        ensures circuit { IsCircuit self.now }
     {
+        let _ = &self.is_ended;
         match bit {
             Bit::False => Bit::False,
             Bit::True => Bit::True,

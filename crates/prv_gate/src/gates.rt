@@ -85,6 +85,8 @@ impl Builder {
         requires third { IsBit self.old.formula.vars c }
         requires room { self.old.formula.vars + 2 ≤ MAX_VARS }
         ensures run { IfOk result (λ out. record { out = out; circuit = self.new } ≡ sum_gate a b c self.old) }
+        ensures gives { IfOk result (λ out. Gives IsBit bit_value 8 self.old (record { out = out; circuit = self.new }) (λ v. differ (differ (bit_value v a) (bit_value v b)) (bit_value v c))) }
+        ensures room { OnOk result (self.new.formula.vars < MAX_VARS) }
     {
         if self.vars() + 2 < MAX_VARS {
             let differ = self.xor(a, b)?;
