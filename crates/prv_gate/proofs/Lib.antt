@@ -9,3 +9,6 @@ pub mod Pairs
 pub mod Triples
 pub mod Laws
 pub mod Asserting
+pub mod Examination
+pub mod Reaching
+pub mod Learning

@@ -7,3 +7,4 @@ pub mod Propagation
 pub mod Assertions
 pub mod Growth
 pub mod Adders
+pub mod Examining

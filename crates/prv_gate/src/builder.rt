@@ -10,6 +10,7 @@ ghost use Rattle.prv_gate.specs.Circuits.{blank, find_gate, with_variable, with_
 
 use crate::bit::Bit;
 use crate::gate::Gate;
+use crate::propagate::value_of;
 use indexmap::IndexMap;
 use prv_cnf::{Cnf, Lit, MAX_VARS};
 use std::alloc::{AllocError, Global};
@@ -95,12 +96,9 @@ impl Builder {
 
     /// What is known of a literal.
     fn value(&self, lit: Lit) -> Option<bool>
-        requires { IsLiteral self.now.formula.vars lit }
         ensures { result ≡ known_literal self.now.known lit }
     {
-        let index = lit.variable() as usize - 1;
-        let value = self.known.get(index).copied().unwrap_or(None)?;
-        Some(if lit.0 < 0 { !value } else { value })
+        value_of(self.known.as_slice(), lit)
     }
 
     /// Adds a variable, and answers its literal.

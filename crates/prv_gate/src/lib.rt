@@ -10,6 +10,7 @@ mod gate;
 mod gates;
 mod majority;
 mod mux;
+mod propagate;
 
 pub use bit::Bit;
 pub use builder::Builder;
