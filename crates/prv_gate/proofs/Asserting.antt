@@ -1,10 +1,12 @@
 -- Assertions: what follows by propagation is so in each model, and the models are those in which one
 -- of the bits is true.
-use Rattle.std.proofs.Common.{◌≡◌, ℕ, suc, zero, ◌+◌, ◌-◌, ◌<◌, ◌≤◌, ◌↔◌, Bool, true, false, not, cond, ◌&&◌, ◌||◌, List, [], ◌∷◌, ◌++◌, map, Option, None, Some, option_map, length, get_or, ℤ, pos, negsuc, refl, ap, sym, ◌∙◌, subst, arith, IsTrue, if◌then◌else◌, ⊎_elim, inl, inr, length-append, unsigned_abs, neg_ℤ, ◌⊎◌, add-one}
+use Rattle.std.proofs.Common.{◌≡◌, ℕ, suc, zero, ◌+◌, ◌-◌, ◌<◌, ◌≤◌, ◌↔◌, Bool, true, false, not, cond, ◌&&◌, ◌||◌, List, [], ◌∷◌, ◌++◌, map, take, replicate, Option, None, Some, option_map, length, get_or, ℤ, pos, negsuc, refl, ap, sym, ◌∙◌, subst, arith, IsTrue, if◌then◌else◌, ⊎_elim, inl, inr, length-append, unsigned_abs, neg_ℤ, ◌⊎◌, add-one, Result, Ok, Err}
+use Rattle.std.specs.Result.{OnOk}
+use Rattle.std.proofs.Math.Seq.{take-append_seam}
 use Rattle.std.specs.List.{list_all, list_any, AllByRecursion, range_with_len}
 use Rattle.std.specs.Option.{option_map_or, option_or}
 use Rattle.std.proofs.lemmas.List.FromFn.{get_or-map-range_with_len, length-map-range_with_len}
-use Rattle.std.proofs.lemmas.List.{get_or_past}
+use Rattle.std.proofs.lemmas.List.{get_or_past, take_all}
 use Rattle.std.proofs.lemmas.Bool.{cases_lt}
 use Rattle.prv_cnf.specs.declared.literal.Lit.{Lit}
 use Rattle.prv_cnf.specs.Literals.{variable, negate, signed_value, is_literal_true, same_literal, has_literal}
@@ -269,3 +271,68 @@ module _ (s : Circuit) (h : IsCircuit s) (bits : List Bit) (inside : AllByRecurs
   pub asserted-asserts : Asserts bits s (asserted bits s)
   unfolding asserted
   asserted-asserts = asserted-by s.is_ended refl
+
+-- a circuit with all that follows, and one of which nothing is known
+pub closure-circuit : (s : Circuit) → IsCircuit s → IsCircuit (record s { known = closure s.formula s.known })
+closure-circuit s h = record {
+  formula = h.formula;
+  gates = h.gates;
+  known = λ k b some is v model. closure-value v s.formula s.known (known-circuit s h v model) h.formula.1 model k b some is;
+  size = omega (arith, closure-length s.formula s.known);
+  ended = h.ended;
+}
+
+pub unknown-circuit : (s : Circuit) → IsCircuit s → IsCircuit (record s { known = [] })
+unknown-circuit s h = record { formula = h.formula; gates = h.gates; known = λ k b some is. absurd cc; size = omega arith; ended = h.ended }
+
+pub settled-calm : (s : Circuit) → has_conflict s.formula.clauses (closure s.formula s.known) ≡ false → record s { known = closure s.formula s.known } ≡ settled s
+settled-calm s e = ap (λ (t : Bool). if t then ended s else record s { known = closure s.formula s.known }) (sym e)
+
+pub settled-conflict : (s : Circuit) → has_conflict s.formula.clauses (closure s.formula s.known) ≡ true → ended s ≡ settled s
+settled-conflict s e = ap (λ (t : Bool). if t then ended s else record s { known = closure s.formula s.known }) (sym e)
+
+-- variables past the end of a table aren't known, and stay so where it grows
+padded-none : (m j : ℕ) → let none : Option Bool = None in get_or (replicate m none) j none ≡ none
+padded-none zero j = refl
+padded-none (suc m) zero = refl
+padded-none (suc m) (suc j) = padded-none m j
+
+padded-at : (known : List (Option Bool)) (m j : ℕ) → get_or known j None ≡ get_or (known ++ replicate m None) j None
+padded-at [] m j = sym (padded-none m j)
+padded-at (x ∷ xs) m zero = refl
+padded-at (x ∷ xs) m (suc j) = padded-at xs m j
+
+pub padded-value : (known wide : List (Option Bool)) (n m : ℕ) → length known ≤ n → wide ≡ take n known ++ replicate m None → (k : ℕ) → known_value known k ≡ known_value wide k
+padded-value known wide n m short e k =
+    let all : take n known ≡ known = take_all n known short in
+    padded-at known m (k - 1) ∙ sym (ap (λ (xs : List (Option Bool)). get_or xs (k - 1) None) (e ∙ ap (λ (xs : List (Option Bool)). xs ++ replicate m None) all))
+
+same_formula : (f : Formula) (n : ℕ) (cs : List (List Lit)) → n ≡ f.vars → cs ≡ f.clauses → record { vars = n; clauses = cs } ≡ f
+same_formula f n cs e d =
+    let by_vars : ℕ → Formula = λ n. record { vars = n; clauses = cs } in
+    let by_clauses : List (List Lit) → Formula = λ cs. record { vars = f.vars; clauses = cs } in
+    ap by_vars e ∙ ap by_clauses d
+
+-- what propagation answered is the settled circuit
+module _ (s : Circuit) (n : ℕ) (cs : List (List Lit)) (vars : n ≡ s.formula.vars) (clauses : cs ≡ s.formula.clauses) where
+  pub propagated : (new : List (Option Bool)) → has_conflict cs (closure (record { vars = n; clauses = cs }) s.known) ≡ false → new ≡ closure (record { vars = n; clauses = cs }) s.known →
+      record s { known = new } ≡ settled s
+  propagated new calm e =
+      let f = same_formula s.formula n cs vars clauses in
+      let with_known : List (Option Bool) → Circuit = λ known. record s { known = known } in
+      let same : closure (record { vars = n; clauses = cs }) s.known ≡ closure s.formula s.known = ap (λ (f : Formula). closure f s.known) f in
+      ap with_known (e ∙ same)
+      ∙ settled-calm s (sym (ap (λ (f : Formula). has_conflict f.clauses (closure f s.known)) f) ∙ calm)
+
+  pub contradicted : has_conflict cs (closure (record { vars = n; clauses = cs }) s.known) ≡ true → ended s ≡ settled s
+  contradicted conflict =
+      let f = same_formula s.formula n cs vars clauses in
+      settled-conflict s (sym (ap (λ (f : Formula). has_conflict f.clauses (closure f s.known)) f) ∙ conflict)
+
+pub ok_as : {A T E : Type 0} (r : Result T E) (a b c : A) → OnOk r (a ≡ b) → b ≡ c → OnOk r (a ≡ c)
+ok_as (Ok x) a b c e f = e ∙ f
+ok_as (Err x) a b c e f = tt
+
+-- a list written back over another of its length
+pub written : (n : ℕ) (xs ys : List (Option Bool)) → n ≡ length xs → take n (xs ++ ys) ≡ xs
+written n xs ys e = ap (λ (n : ℕ). take n (xs ++ ys)) e ∙ take-append_seam xs ys

@@ -252,3 +252,32 @@ pub any_default : {A : Type 0} (xs : List A) (i : ℕ) (d e : A) → i < length 
 any_default [] i d e h = absurd (omega arith)
 any_default (x ∷ xs) zero d e h = refl
 any_default (x ∷ xs) (suc i) d e h = any_default xs i d e (omega arith)
+
+-- passes over the clauses until one finds nothing
+module _ (cs : List (List Lit)) (first now next : List (Option Bool)) (inside : AllByRecursion (AllByRecursion (IsLiteral (length first))) cs)
+    (so_far : Learns (record { vars = length first; clauses = cs }) first now) where
+  module _ (pass : Learns (record { vars = length now; clauses = cs }) now next) where
+    pub passes-learn : Learns (record { vars = length first; clauses = cs }) first next
+    passes-learn =
+        learns-trans (record { vars = length first; clauses = cs }) first now next so_far
+        (subst (λ (n : ℕ). Learns (record { vars = n; clauses = cs }) now next) so_far.size pass)
+
+  module _ (start : List (Option Bool)) (short : length start ≤ length first) (same : (k : ℕ) → known_value start k ≡ known_value first k) where
+    begin-reached : IsReached (record { vars = length first; clauses = cs }) start first
+    begin-reached calm k x some e =
+        rounds-up (record { vars = length first; clauses = cs }) start short 0 (length first + 1 - unknown_count first) (omega arith) k x some (same k ∙ e)
+
+    begin-within : Within start now
+    begin-within k x some e = so_far.keeps k x some (sym (same k) ∙ e)
+
+    pub passes-calm : ((k : ℕ) → k < length cs → examined now None (get_or cs k []) ≡ Open) → has_conflict cs (closure (record { vars = length first; clauses = cs }) start) ≡ false
+    passes-calm opened = open-calm (record { vars = length first; clauses = cs }) inside start now short begin-within opened
+
+    pub passes-closure : ((k : ℕ) → k < length cs → examined now None (get_or cs k []) ≡ Open) → next ≡ now → next ≡ closure (record { vars = length first; clauses = cs }) start
+    passes-closure opened stays =
+        stays ∙ open-closure (record { vars = length first; clauses = cs }) inside start now short begin-within opened so_far.size (so_far.reached start short begin-reached)
+
+    pub passes-conflict : Learns (record { vars = length now; clauses = cs }) now next → has_conflict cs next ≡ true →
+        has_conflict cs (closure (record { vars = length first; clauses = cs }) start) ≡ true
+    passes-conflict pass conflict =
+        conflict-closure (record { vars = length first; clauses = cs }) inside start next short ((passes-learn pass).reached start short begin-reached) conflict

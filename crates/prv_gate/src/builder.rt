@@ -7,10 +7,11 @@ ghost use Rattle.prv_gate.specs.Bits.{IsBit};
 ghost use Rattle.prv_gate.specs.Gates.{gate_value, HoldsOfInputs};
 ghost use Rattle.prv_gate.specs.Knowledge.{known_literal, reduced};
 ghost use Rattle.prv_gate.specs.Circuits.{blank, find_gate, with_variable, with_clauses, with_gate, next_output, IsCircuit, IsFree};
+ghost use Rattle.prv_gate.specs.Assertions.{settled, ended};
 
 use crate::bit::Bit;
 use crate::gate::Gate;
-use crate::propagate::value_of;
+use crate::propagate::{propagate, value_of};
 use indexmap::IndexMap;
 use prv_cnf::{Cnf, Lit, MAX_VARS};
 use std::alloc::{AllocError, Global};
@@ -94,6 +95,11 @@ impl Builder {
         }
     }
 
+    /// The allocator from which the circuit grows.
+    pub(crate) fn alloc(&self) -> Global {
+        *self.known.allocator()
+    }
+
     /// What is known of a literal.
     fn value(&self, lit: Lit) -> Option<bool>
         ensures { result ≡ known_literal self.now.known lit }
@@ -134,6 +140,29 @@ impl Builder {
         ensures { OnOk result (self.new ≡ with_gate gate out self.old) }
     {
         self.gates.insert(gate, out)?;
+        Ok(())
+    }
+
+    /// Makes known all that follows from the clauses, or ends the formula where they contradict each
+    /// other.
+    pub(crate) fn settle(&mut self) -> Result<(), AllocError>
+        ensures { OnOk result (self.new ≡ settled self.old) }
+    {
+        self.known.resize(self.cnf.vars() as usize, None)?;
+        if propagate(self.cnf.clauses(), self.known.as_mut_slice()) {
+            return Ok(());
+        }
+        self.known.clear();
+        self.end()
+    }
+
+    /// Ends the formula by the empty clause.
+    pub(crate) fn end(&mut self) -> Result<(), AllocError>
+        ensures { OnOk result (self.new ≡ ended self.old) }
+    {
+        self.cnf.push_clause(&[])?;
+        self.known.clear();
+        self.is_ended = true;
         Ok(())
     }
 }

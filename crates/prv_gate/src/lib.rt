@@ -2,6 +2,7 @@
 //! was made before is made once, and what is known of a bit is used in place of it.
 #![tactic(auto)]
 
+mod assert;
 mod bit;
 mod builder;
 mod define;
