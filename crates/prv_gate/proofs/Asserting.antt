@@ -336,3 +336,21 @@ ok_as (Err x) a b c e f = tt
 -- a list written back over another of its length
 pub written : (n : ℕ) (xs ys : List (Option Bool)) → n ≡ length xs → take n (xs ++ ys) ≡ xs
 written n xs ys e = ap (λ (n : ℕ). take n (xs ++ ys)) e ∙ take-append_seam xs ys
+
+pub asserted-ended : (bits : List Bit) (s : Circuit) → s.is_ended ≡ true → s ≡ asserted bits s
+unfolding asserted
+asserted-ended bits s e = ap (λ (t : Bool). if t then s else option_map_or (with_asserted s) (clause_of s.known bits) s) (sym e)
+
+pub asserted-by_clause : (bits : List Bit) (s : Circuit) (r : Option (List Lit)) → s.is_ended ≡ false → r ≡ clause_of s.known bits → option_map_or (with_asserted s) r s ≡ asserted bits s
+unfolding asserted
+asserted-by_clause bits s r e f =
+    ap (λ (r : Option (List Lit)). option_map_or (with_asserted s) r s) f
+    ∙ ap (λ (t : Bool). if t then s else option_map_or (with_asserted s) (clause_of s.known bits) s) (sym e)
+
+pub clause-inside : (n : ℕ) (known : List (Option Bool)) (bits : List Bit) (ls : List Lit) → AllByRecursion (IsBit n) bits → Some ls ≡ clause_of known bits → AllByRecursion (IsLiteral n) ls
+unfolding IsInside
+clause-inside n known bits ls inside e = subst (IsInside n) (sym e) (clause_of-inside n known bits inside)
+
+pub ok_along : {T E : Type 0} (P : Circuit → Type 0) (r : Result T E) (new s : Circuit) → OnOk r (new ≡ s) → P s → OnOk r (P new)
+ok_along P (Ok x) new s e p = subst P (sym e) p
+ok_along P (Err x) new s e p = tt

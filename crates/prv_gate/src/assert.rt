@@ -1,8 +1,9 @@
 //! Assertions: one of some bits is to be true, and all that follows is known.
 ghost use Rattle.std.specs.Prelude.{◌≡◌, ◌++◌, ◌∷◌, IfOk, OnOk, length, option_map};
 ghost use Rattle.std.specs.List.{AllByRecursion};
+ghost use Rattle.prv_cnf.specs.Formulas.{IsLiteral};
 ghost use Rattle.prv_gate.specs.Bits.{IsBit};
-ghost use Rattle.prv_gate.specs.Assertions.{asserted, clause_of, Asserts};
+ghost use Rattle.prv_gate.specs.Assertions.{asserted, with_asserted, clause_of, Asserts};
 
 use crate::bit::Bit;
 use crate::builder::Builder;
@@ -22,13 +23,21 @@ impl Builder {
         if self.is_ended() {
             return Ok(());
         }
-        let Some(lits) = self.clause_of(bits)? else {
-            return Ok(());
-        };
+        match self.clause_of(bits)? {
+            None => Ok(()),
+            Some(lits) => self.assert_clause(lits.as_slice()),
+        }
+    }
+
+    /// Adds a clause of literals that aren't known, and makes known all that follows.
+    fn assert_clause(&mut self, lits: &[Lit]) -> Result<(), AllocError>
+        requires { AllByRecursion (IsLiteral self.old.formula.vars) lits.now }
+        ensures { OnOk result (self.new ≡ with_asserted self.old lits.now) }
+    {
         if lits.is_empty() {
             return self.end();
         }
-        self.push(lits.as_slice())?;
+        self.push(lits)?;
         self.settle()
     }
 

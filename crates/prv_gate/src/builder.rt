@@ -72,7 +72,8 @@ impl Builder {
 
     /// Whether the formula was ended by the empty clause, since what was asserted contradicts itself.
     pub fn is_ended(&self) -> bool
-        ensures { result ≡ self.now.is_ended }
+        ensures value { result ≡ self.now.is_ended }
+        ensures circuit { IsCircuit self.now }
     {
         self.is_ended
     }
