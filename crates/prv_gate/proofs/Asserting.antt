@@ -209,19 +209,28 @@ module _ (s : Circuit) (h : IsCircuit s) where
       × ((if t then ended s else record s { known = closure s.formula s.known }).formula.vars ≡ s.formula.vars)
       × (length (if t then ended s else record s { known = closure s.formula s.known }).formula.clauses ≤ length s.formula.clauses + 1)
       × ((v : ℕ → Bool) → IsModel v (if t then ended s else record s { known = closure s.formula s.known }).formula ↔ IsModel v s.formula)
-  settled-by true e =
-      (ended-circuit s h, refl, omega (arith, length-append s.formula.clauses ([] ∷ [])),
-      λ v. ((λ model. IsModel-first s.formula ([] ∷ []) v model),
+  settled-by true e = (
+    ended-circuit s h,
+    refl,
+    omega (arith, length-append s.formula.clauses ([] ∷ [])),
+    λ v. (
+      (λ model. IsModel-first s.formula ([] ∷ []) v model),
       (λ model. absurd (conflict-no_model v (closure s.formula s.known) (closure-value v s.formula s.known (known-circuit s h v model) h.formula.1 model)
-      s.formula.vars s.formula.clauses h.formula.1 e model))))
-  settled-by false e =
-      (record {
-        formula = h.formula;
-        gates = h.gates;
-        known = λ k b some is v model. closure-value v s.formula s.known (known-circuit s h v model) h.formula.1 model k b some is;
-        size = omega (arith, closure-length s.formula s.known);
-        ended = h.ended;
-      }, refl, omega arith, λ v. ((λ model. model), (λ model. model)))
+          s.formula.vars s.formula.clauses h.formula.1 e model)),
+    ),
+  )
+  settled-by false e = (
+    record {
+      formula = h.formula;
+      gates = h.gates;
+      known = λ k b some is v model. closure-value v s.formula s.known (known-circuit s h v model) h.formula.1 model k b some is;
+      size = omega (arith, closure-length s.formula s.known);
+      ended = h.ended;
+    },
+    refl,
+    omega arith,
+    λ v. ((λ model. model), (λ model. model)),
+  )
 
   pub settled-law : IsCircuit (settled s) × ((settled s).formula.vars ≡ s.formula.vars) × (length (settled s).formula.clauses ≤ length s.formula.clauses + 1)
       × ((v : ℕ → Bool) → IsModel v (settled s).formula ↔ IsModel v s.formula)
@@ -250,11 +259,13 @@ module _ (s : Circuit) (h : IsCircuit s) (bits : List Bit) (inside : AllByRecurs
         circuit = law.0;
         vars = law.1;
         cost = omega (arith, law.2, length-append s.formula.clauses ((l ∷ ls) ∷ []));
-        models = λ v. ((λ model.
-            let both : IsModel v t.formula = (law.3 v).0 model in
-            let old : IsModel v s.formula = IsModel-first s.formula ((l ∷ ls) ∷ []) v both in
-            (old, m v old ∙ and-first (is_clause_true v (l ∷ ls)) true (IsModel-last s.formula ((l ∷ ls) ∷ []) v both))),
-            (λ both. (law.3 v).1 (IsModel-both s.formula ((l ∷ ls) ∷ []) v both.0 (and-both (is_clause_true v (l ∷ ls)) true (sym (m v both.0) ∙ both.1) refl))));
+        models = λ v. (
+          (λ model.
+              let both : IsModel v t.formula = (law.3 v).0 model in
+              let old : IsModel v s.formula = IsModel-first s.formula ((l ∷ ls) ∷ []) v both in
+              (old, m v old ∙ and-first (is_clause_true v (l ∷ ls)) true (IsModel-last s.formula ((l ∷ ls) ∷ []) v both))),
+          (λ both. (law.3 v).1 (IsModel-both s.formula ((l ∷ ls) ∷ []) v both.0 (and-both (is_clause_true v (l ∷ ls)) true (sym (m v both.0) ∙ both.1) refl))),
+        );
       }
 
   asserted-by : (t : Bool) → s.is_ended ≡ t → Asserts bits s (if t then s else option_map_or (with_asserted s) (clause_of s.known bits) s)

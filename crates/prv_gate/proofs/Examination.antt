@@ -96,6 +96,7 @@ module _ (known : List (Option Bool)) (n : ℕ) where
           let same : m ≡ l = sym (same_literal-eq o m is) ∙ (rest e).0 in
           ((rest e).0, and-both (same_literal m l || is_known_false known m) (others_false known l ms) (or-left (same_literal m l) (is_known_false known m) (ap (same_literal m) (sym same) ∙ same_literal_refl m)) (rest e).1)
       choose false is e rest = absurd cc
+
       by : (r : Option Bool) → known_literal known m ≡ r → by_value r (Some o) m (λ f. examined known f ms) ≡ Forces l → (examined known (Some o) ms ≡ Forces l → (o ≡ l) × (others_false known l ms ≡ true)) →
           (o ≡ l) × (((same_literal m l || is_known_false known m) && others_false known l ms) ≡ true)
       by (Some true) is e rest = absurd cc
@@ -114,15 +115,19 @@ module _ (known : List (Option Bool)) (n : ℕ) where
           ((same_literal l m || has_literal ms l) ≡ true) × (known_literal known l ≡ None) × (((same_literal m l || is_known_false known m) && others_false known l ms) ≡ true) × IsLiteral n l
       by (Some true) is e rest = absurd cc
       by (Some false) is e rest =
-          let r = rest e in
-          (or-right (same_literal l m) (has_literal ms l) r.0, r.1,
-          and-both (same_literal m l || is_known_false known m) (others_false known l ms) (or-right (same_literal m l) (is_known_false known m) (false-of known m (Some false) inside.0.0 is)) r.2, r.3)
+          let r = rest e in (
+            or-right (same_literal l m) (has_literal ms l) r.0,
+            r.1,
+            and-both (same_literal m l || is_known_false known m) (others_false known l ms) (or-right (same_literal m l) (is_known_false known m) (false-of known m (Some false) inside.0.0 is)) r.2,
+            r.3,
+          )
       by None is e rest =
-          let r = forces-some m l ms inside.1 e in
-          (or-left (same_literal l m) (has_literal ms l) (ap (λ (x : Lit). same_literal x m) (sym r.0) ∙ same_literal_refl m),
-          ap (known_literal known) (sym r.0) ∙ is,
-          and-both (same_literal m l || is_known_false known m) (others_false known l ms) (or-left (same_literal m l) (is_known_false known m) (ap (same_literal m) (sym r.0) ∙ same_literal_refl m)) r.1,
-          subst (IsLiteral n) r.0 inside.0)
+          let r = forces-some m l ms inside.1 e in (
+            or-left (same_literal l m) (has_literal ms l) (ap (λ (x : Lit). same_literal x m) (sym r.0) ∙ same_literal_refl m),
+            ap (known_literal known) (sym r.0) ∙ is,
+            and-both (same_literal m l || is_known_false known m) (others_false known l ms) (or-left (same_literal m l) (is_known_false known m) (ap (same_literal m) (sym r.0) ∙ same_literal_refl m)) r.1,
+            subst (IsLiteral n) r.0 inside.0,
+          )
 
   -- the literal that was found, if there is one, is this one
   IsFound : Option Lit → Lit → Type 0
@@ -139,11 +144,13 @@ module _ (known : List (Option Bool)) (n : ℕ) where
     where
       here : (same_literal m l || is_known_false known m) ≡ true
       here = and-first (same_literal m l || is_known_false known m) (others_false known l ms) others
+
       next : (f : Option Lit) → IsFound f l → m ≡ l → beside f m (λ g. examined known g ms) ≡ Open → ((g : Option Lit) → IsFound g l → examined known g ms ≡ Open → is_known_true known l ≡ true) → is_known_true known l ≡ true
       next None is same e rest = rest (Some m) same e
       next (Some o) is same e rest =
           let test : same_literal o m ≡ true = ap (same_literal o) (same ∙ sym is) ∙ same_literal_refl o in
           rest (Some o) is (sym (ap (λ (t : Bool). if t then examined known (Some o) ms else Open) test) ∙ e)
+
       by : (r : Option Bool) → known_literal known m ≡ r → by_value r found m (λ f. examined known f ms) ≡ Open →
           ((f : Option Lit) → IsFound f l → examined known f ms ≡ Open → is_known_true known l ≡ true) → is_known_true known l ≡ true
       by (Some true) value e rest =

@@ -121,9 +121,10 @@ pub insert_entry-gate : (eq : Gate → Gate → Bool) (g : Gate) (o : Lit) (gate
     find_gate g gates ≡ None → insert_entry eq gates g o ≡ gates ++ (g, o) ∷ []
 insert_entry-gate eq g o [] same none = refl
 insert_entry-gate eq g o (x ∷ xs) same none =
-    elim (same_gate g x.0) as (λ b. eq g x.0 ≡ b → cond b (Some x.1) (find_gate g xs) ≡ None → insert_entry eq (x ∷ xs) g o ≡ x ∷ (xs ++ (g, o) ∷ []))
-    [ true ↦ (λ here is. absurd cc)
-    | false ↦ (λ here is. ap (λ (b : Bool). cond b ((x.0, o) ∷ xs) (x ∷ insert_entry eq xs g o)) here ∙ ap (λ (rest : List (Gate × Lit)). x ∷ rest) (insert_entry-gate eq g o xs same is)) ]
+    elim (same_gate g x.0) as (λ b. eq g x.0 ≡ b → cond b (Some x.1) (find_gate g xs) ≡ None → insert_entry eq (x ∷ xs) g o ≡ x ∷ (xs ++ (g, o) ∷ [])) [
+      | true ↦ (λ here is. absurd cc)
+      | false ↦ (λ here is. ap (λ (b : Bool). cond b ((x.0, o) ∷ xs) (x ∷ insert_entry eq xs g o)) here ∙ ap (λ (rest : List (Gate × Lit)). x ∷ rest) (insert_entry-gate eq g o xs same is))
+    ]
     (same x.0) none
 
 -- what holds of both outcomes of a change holds after it

@@ -92,10 +92,10 @@ module _ (f : Formula) (inside : AllByRecursion (AllByRecursion (IsLiteral f.var
       subst (λ (n : ℕ). Within (learned known l) (known_after f n start)) next
       (λ j x some is. ⊎_elim
       (λ same.
-          let value : known_value (learned known l) j ≡ Some (not (is_negative l)) = ap (known_value (learned known l)) same.1 ∙ learned-same known l here in
-          let there : known_value (known_after f (suc (f.vars + 1 - unknown_count known)) start) (variable l) ≡ Some (not (is_negative l)) =
-          signed-value (known_after f (suc (f.vars + 1 - unknown_count known)) start) l.0 found in
-          ap (known_value (known_after f (suc (f.vars + 1 - unknown_count known)) start)) same.1 ∙ there ∙ sym value ∙ is)
+      let value : known_value (learned known l) j ≡ Some (not (is_negative l)) = ap (known_value (learned known l)) same.1 ∙ learned-same known l here in
+      let there : known_value (known_after f (suc (f.vars + 1 - unknown_count known)) start) (variable l) ≡ Some (not (is_negative l)) =
+      signed-value (known_after f (suc (f.vars + 1 - unknown_count known)) start) l.0 found in
+      ap (known_value (known_after f (suc (f.vars + 1 - unknown_count known)) start)) same.1 ∙ there ∙ sym value ∙ is)
       (λ apart. rounds-more f start short (f.vars + 1 - unknown_count known) j x some (old j x some (sym (learned-other known l j here some apart.1) ∙ is)))
       (eqb_tells j (variable l)))
 
@@ -194,12 +194,12 @@ module _ (f : Formula) (inside : AllByRecursion (AllByRecursion (IsLiteral f.var
       ext_get_or None known (known_after f (f.vars + 1) start) (size ∙ sym (closure-length f start))
       (λ i lt. same (get_or known i None) (get_or (known_after f (f.vars + 1) start) i None)
       (λ x is. let back : i + 1 - 1 ≡ i = omega arith in
-          sym (ap (λ (n : ℕ). get_or (known_after f (f.vars + 1) start) n None) back)
-          ∙ rounds-up f start short (f.vars + 1 - unknown_count known) (f.vars + 1) (omega arith) (i + 1) x (omega arith)
-          (reached open-calm (i + 1) x (omega arith) (ap (λ (n : ℕ). get_or known n None) back ∙ is)))
+      sym (ap (λ (n : ℕ). get_or (known_after f (f.vars + 1) start) n None) back)
+      ∙ rounds-up f start short (f.vars + 1 - unknown_count known) (f.vars + 1) (omega arith) (i + 1) x (omega arith)
+      (reached open-calm (i + 1) x (omega arith) (ap (λ (n : ℕ). get_or known n None) back ∙ is)))
       (λ x is. let back : i + 1 - 1 ≡ i = omega arith in
-          sym (ap (λ (n : ℕ). get_or known n None) back)
-          ∙ rounds-within (f.vars + 1) (i + 1) x (omega arith) (ap (λ (n : ℕ). get_or (known_after f (f.vars + 1) start) n None) back ∙ is)))
+      sym (ap (λ (n : ℕ). get_or known n None) back)
+      ∙ rounds-within (f.vars + 1) (i + 1) x (omega arith) (ap (λ (n : ℕ). get_or (known_after f (f.vars + 1) start) n None) back ∙ is)))
     where
       same : (r q : Option Bool) → ((x : Bool) → r ≡ Some x → q ≡ Some x) → ((x : Bool) → q ≡ Some x → r ≡ Some x) → r ≡ q
       same None None g h = refl

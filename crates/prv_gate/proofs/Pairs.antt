@@ -137,9 +137,9 @@ module _ (s : Circuit) (h : IsCircuit s) (room : s.formula.vars < MAX_VARS) wher
       let flag : Bool = differ (is_negative a) (is_negative b) in
       step-if 4 s (λ v. differ (is_literal_true v a) (is_literal_true v b)) (variable a == variable b) _ _
       (λ e. step-here 4 s (constant flag) _ h (constant-inside s.formula.vars flag) (λ v.
-          let one : variable a ≡ variable b = (Decides-eqb (variable a) (variable b)).0 e in
-          constant-value v flag ∙ differ-same (is_negative a) (is_negative b) (v (variable b))
-          ∙ rw (value-sign v a, value-sign v b, one) refl))
+      let one : variable a ≡ variable b = (Decides-eqb (variable a) (variable b)).0 e in
+      constant-value v flag ∙ differ-same (is_negative a) (is_negative b) (v (variable b))
+      ∙ rw (value-sign v a, value-sign v b, one) refl))
       (λ _. step-value 4 s _ (λ v. differ flag (differ (v (variable a)) (v (variable b)))) _
       (λ v _. rw (value-sign v a, value-sign v b) (differ-signs (is_negative a) (is_negative b) (v (variable a)) (v (variable b))))
       (ordered-cases a b (λ p. Step 4 s (flipped flag (made (Xor (positive p.0) (positive p.1)) s)) (λ v. differ flag (differ (v (variable a)) (v (variable b)))))

@@ -174,6 +174,7 @@ module _ (f : Formula) (inside : AllByRecursion (AllByRecursion (IsLiteral f.var
                 ∙ ap (λ (r : Option Bool). option_or r (if list_any (forces (known_after f i start) (record { 0 = pos (suc n) })) f.clauses then Some true
                 else if list_any (forces (known_after f i start) (record { 0 = negsuc n })) f.clauses then Some false else None)) none
                 ∙ ap (λ (t : Bool). option_or None (if t then Some true else if list_any (forces (known_after f i start) (record { 0 = negsuc n })) f.clauses then Some false else None)) is
+
             step : (t : Bool) → list_any (forces (known_after f i start) (record { 0 = pos (suc n) })) f.clauses ≡ t → option_map not (known_value (known_after f (suc i) start) (suc n)) ≡ Some true
             step true is =
                 let wrong : known_literal (known_after f (suc i) start) (record { 0 = negsuc n }) ≡ Some false = ap (option_map not) (after true is) in
@@ -185,6 +186,7 @@ module _ (f : Formula) (inside : AllByRecursion (AllByRecursion (IsLiteral f.var
                 any-at (forces (known_after f i start) (record { 0 = negsuc n })) f.clauses k at
                 (and-both (has_literal (get_or f.clauses k []) (record { 0 = negsuc n })) (others_false (known_after f i start) (record { 0 = negsuc n }) (get_or f.clauses k [])) has others) in
                 ap (option_map not) (after false is ∙ ap (λ (t : Bool). if t then Some false else None) any)
+
         by : (r : Option Bool) → known_value (known_after f i start) (suc n) ≡ r → option_map not (known_value (known_after f (suc i) start) (suc n)) ≡ Some true
         by (Some false) is = ap (option_map not) (rounds-more f start short i (suc n) false some is)
         by (Some true) is =

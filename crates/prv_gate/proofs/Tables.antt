@@ -155,9 +155,19 @@ gate_clauses-inside n (Majority a b c) o ho h =
     let no = IsLiteral-negate n o ho in let na = IsLiteral-negate n a h.0 in let nb = IsLiteral-negate n b h.1 in let nc = IsLiteral-negate n c h.2 in
     ((no, (h.0, (h.1, tt))), ((no, (h.0, (h.2, tt))), ((no, (h.1, (h.2, tt))), ((ho, (na, (nb, tt))), ((ho, (na, (nc, tt))), ((ho, (nb, (nc, tt))), tt))))))
 gate_clauses-inside n (Parity a b c) o ho h =
-    let no = IsLiteral-negate n o ho in let na = IsLiteral-negate n a h.0 in let nb = IsLiteral-negate n b h.1 in let nc = IsLiteral-negate n c h.2 in
-    ((no, (h.0, (h.1, (h.2, tt)))), ((no, (h.0, (nb, (nc, tt)))), ((no, (na, (h.1, (nc, tt)))), ((no, (na, (nb, (h.2, tt)))),
-    ((ho, (na, (h.1, (h.2, tt)))), ((ho, (h.0, (nb, (h.2, tt)))), ((ho, (h.0, (h.1, (nc, tt)))), ((ho, (na, (nb, (nc, tt)))), tt))))))))
+    let no = IsLiteral-negate n o ho in let na = IsLiteral-negate n a h.0 in let nb = IsLiteral-negate n b h.1 in let nc = IsLiteral-negate n c h.2 in (
+      (no, (h.0, (h.1, (h.2, tt)))),
+      (
+        (no, (h.0, (nb, (nc, tt)))),
+        (
+          (no, (na, (h.1, (nc, tt)))),
+          (
+            (no, (na, (nb, (h.2, tt)))),
+            ((ho, (na, (h.1, (h.2, tt)))), ((ho, (h.0, (nb, (h.2, tt)))), ((ho, (h.0, (h.1, (nc, tt)))), ((ho, (na, (nb, (nc, tt)))), tt)))),
+          ),
+        ),
+      ),
+    )
 
 pub inputs-more : (g : Gate) (P Q : Lit → Type 0) → ((l : Lit) → P l → Q l) → HoldsOfInputs P g → HoldsOfInputs Q g
 inputs-more (And a b) P Q f h = (f a h.0, f b h.1)

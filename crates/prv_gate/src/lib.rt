@@ -12,6 +12,8 @@ mod gates;
 mod majority;
 mod mux;
 mod propagate;
+#[cfg(test)]
+mod tests;
 
 pub use bit::Bit;
 pub use builder::Builder;

@@ -33,18 +33,20 @@ loop-clause-preserved c =
     c.lits.ensures ∙ c.clause-item.is ∙ any_default c.args.clauses.now c.loop-clause.clause-index c.clause-item.result [] c.loop-clause-test.true in
     let learns = pass-learns f c.requires first c.loop-clause.known c.visit.new.known refl inv.0 c.lits.result.now i c.loop-clause-test.true same c.visit.ensures.known in
     elim c.match-visit.branch [
-      in-Open w ↦
-        let stays = pass-open f c.requires first c.loop-clause.known c.visit.new.known refl inv.0 c.lits.result.now i c.loop-clause-test.true same c.visit.ensures.known w.in-Open.ensures.value in
-        (learns,
-        λ no_change. stays ∙ inv.1 (sym w.is_changed-is ∙ no_change),
-        λ no_change. below_more (λ (k : ℕ). examined first None (get_or c.args.clauses.now k []) ≡ Open) i (inv.2 (sym w.is_changed-is ∙ no_change))
-          (pass-opened f c.requires first c.loop-clause.known c.visit.new.known refl inv.0 c.lits.result.now i c.loop-clause-test.true same c.visit.ensures.known w.in-Open.ensures.value
-          (inv.1 (sym w.is_changed-is ∙ no_change))),
-        λ change. let count : unknown_count c.visit.new.known ≡ unknown_count c.loop-clause.known = ap unknown_count stays in
-          let less : unknown_count c.loop-clause.known < unknown_count first = inv.3 (sym w.is_changed-is ∙ change) in omega arith)
-    | in-Forces w ↦
-        (learns,
+      | in-Open w ↦
+          let stays = pass-open f c.requires first c.loop-clause.known c.visit.new.known refl inv.0 c.lits.result.now i c.loop-clause-test.true same c.visit.ensures.known w.in-Open.ensures.value in (
+            learns,
+            λ no_change. stays ∙ inv.1 (sym w.is_changed-is ∙ no_change),
+            λ no_change. below_more (λ (k : ℕ). examined first None (get_or c.args.clauses.now k []) ≡ Open) i (inv.2 (sym w.is_changed-is ∙ no_change))
+                (pass-opened f c.requires first c.loop-clause.known c.visit.new.known refl inv.0 c.lits.result.now i c.loop-clause-test.true same c.visit.ensures.known w.in-Open.ensures.value
+                (inv.1 (sym w.is_changed-is ∙ no_change))),
+            λ change. let count : unknown_count c.visit.new.known ≡ unknown_count c.loop-clause.known = ap unknown_count stays in
+                let less : unknown_count c.loop-clause.known < unknown_count first = inv.3 (sym w.is_changed-is ∙ change) in omega arith,
+          )
+      | in-Forces w ↦ (
+        learns,
         λ no_change. let clash : true ≡ false = sym w.is_changed-is ∙ no_change in cc,
         λ no_change. let clash : true ≡ false = sym w.is_changed-is ∙ no_change in cc,
-        λ change. pass-fewer f c.requires first c.loop-clause.known c.visit.new.known refl inv.0 c.lits.result.now i c.loop-clause-test.true same c.visit.ensures.known _ w.in-Forces.ensures.value)
+        λ change. pass-fewer f c.requires first c.loop-clause.known c.visit.new.known refl inv.0 c.lits.result.now i c.loop-clause-test.true same c.visit.ensures.known _ w.in-Forces.ensures.value,
+      )
     ]
