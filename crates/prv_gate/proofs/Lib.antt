@@ -1,0 +1,14 @@
+pub mod Frames
+pub mod Keeping
+pub mod SameGates
+pub mod Tables
+pub mod Composing
+pub mod Making
+pub mod Steps
+pub mod Pairs
+pub mod Triples
+pub mod Laws
+pub mod Asserting
+pub mod Examination
+pub mod Reaching
+pub mod Learning

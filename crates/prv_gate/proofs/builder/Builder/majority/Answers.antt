@@ -1,0 +1,23 @@
+use Rattle.std.proofs.Common.{◌≡◌, ◌<◌, ◌≤◌, ◌+◌, Bool, arith, if◌then◌else◌}
+use Rattle.prv_gate.specs.Bits.{IsBit, bit_value}
+use Rattle.prv_gate.specs.Gates.{majority}
+use Rattle.prv_gate.specs.Circuits.{Circuit, Run}
+use Rattle.prv_gate.specs.Folding.{majority_gate, majority_bits}
+use Rattle.prv_gate.specs.Growth.{Gives}
+use Rattle.prv_gate.proofs.Composing.{of_run, of_circuit}
+use Rattle.prv_gate.proofs.Laws.{majority_gate-gives, majority_gate-vars}
+use Rattle.prv_gate.proofs.builder.Builder.majority.Goals as goal
+
+pub returns-clause-run : goal.returns-clause-run
+unfolding majority_gate
+returns-clause-run c = rw (c.known-a.ensures.value, c.known-b.ensures.value, c.known-c.ensures.value) at c.majority_bits.ensures
+
+pub returns-clause-gives : goal.returns-clause-gives
+returns-clause-gives c =
+    of_run (λ r. Gives IsBit bit_value 6 c.args.self.now r (λ v. majority (bit_value v c.args.a) (bit_value v c.args.b) (bit_value v c.args.c))) _ _ _ (returns-clause-run c)
+    (majority_gate-gives c.args.a c.args.b c.args.c c.args.self.now c.known-a.ensures.circuit c.requires.first c.requires.second c.requires.third (omega arith))
+
+pub returns-clause-variables : goal.returns-clause-variables
+returns-clause-variables c =
+    of_circuit (λ s. s.formula.vars ≤ c.args.self.now.formula.vars + 1) _ _ _ (returns-clause-run c)
+    (majority_gate-vars c.args.a c.args.b c.args.c c.args.self.now c.known-a.ensures.circuit c.requires.first c.requires.second c.requires.third (omega arith))

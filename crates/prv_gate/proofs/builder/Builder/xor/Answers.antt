@@ -1,0 +1,26 @@
+use Rattle.std.proofs.Common.{◌≡◌, ◌<◌, ◌≤◌, ◌+◌, Bool, ◌&&◌, subst, sym, arith, ap}
+use Rattle.std.specs.Result.{IfOk}
+use Rattle.prv_cnf.specs.declared.formula.TheConstants.{MAX_VARS}
+use Rattle.prv_gate.specs.Bits.{IsBit, bit_value}
+use Rattle.prv_gate.specs.Gates.{differ}
+use Rattle.prv_gate.specs.Circuits.{Circuit, Run}
+use Rattle.prv_gate.specs.Folding.{xor_gate, xor_bits}
+use Rattle.prv_gate.specs.Growth.{Gives}
+use Rattle.prv_gate.specs.declared.bit.Bit.{Bit}
+use Rattle.prv_gate.proofs.Composing.{of_run, of_circuit}
+use Rattle.prv_gate.proofs.Laws.{xor_gate-gives, xor_gate-vars}
+use Rattle.prv_gate.proofs.builder.Builder.xor.Goals as goal
+
+pub returns-clause-run : goal.returns-clause-run
+unfolding xor_gate
+returns-clause-run c = rw (c.known-a.ensures.value, c.known-b.ensures.value) at c.xor_bits.ensures.run
+
+pub returns-clause-gives : goal.returns-clause-gives
+returns-clause-gives c =
+    of_run (λ r. Gives IsBit bit_value 4 c.args.self.now r (λ v. differ (bit_value v c.args.a) (bit_value v c.args.b))) _ _ _ (returns-clause-run c)
+    (xor_gate-gives c.args.a c.args.b c.args.self.now c.known-a.ensures.circuit c.requires.first c.requires.second (omega arith))
+
+pub returns-clause-variables : goal.returns-clause-variables
+returns-clause-variables c =
+    of_circuit (λ s. s.formula.vars ≤ c.args.self.now.formula.vars + 1) _ _ _ (returns-clause-run c)
+    (xor_gate-vars c.args.a c.args.b c.args.self.now c.known-a.ensures.circuit c.requires.first c.requires.second (omega arith))

@@ -1,0 +1,10 @@
+pub mod Bits
+pub mod Gates
+pub mod Knowledge
+pub mod Circuits
+pub mod Folding
+pub mod Propagation
+pub mod Assertions
+pub mod Growth
+pub mod Adders
+pub mod Examining

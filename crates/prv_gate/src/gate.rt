@@ -1,0 +1,16 @@
+use prv_cnf::Lit;
+
+/// A gate: how the value of its output comes from its inputs.
+#[derive(Clone, Copy, Debug, PartialEq, Eq, Hash)]
+pub enum Gate {
+    /// Both inputs are true.
+    And(Lit, Lit),
+    /// The inputs differ.
+    Xor(Lit, Lit),
+    /// The second input where the first is true, else the third.
+    Mux(Lit, Lit, Lit),
+    /// At least two inputs are true.
+    Majority(Lit, Lit, Lit),
+    /// An odd number of inputs is true.
+    Parity(Lit, Lit, Lit),
+}
