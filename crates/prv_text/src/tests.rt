@@ -5,18 +5,16 @@ use sqlite_items::{Boxed, Items};
 use std::test::Fail;
 
 /// Names of 1, 63, 13 and 14 bytes.
-const NAMES: [&str; 4] = [
-    "a",
-    "x23456789012345678901234567890123456789012345678901234567890123",
-    "y234567890123",
-    "z2345678901234",
-];
-
 fn names(rt: &HostRuntime) -> Result<Vec<Name>, Fail> {
-    let mut names = Vec::new(rt.alloc());
-    for name in NAMES {
-        names.push(Name::new(rt.alloc(), name.as_bytes())?)?;
-    }
+    let alloc = rt.alloc();
+    let mut names = Vec::new(alloc);
+    names.push(Name::new(alloc, b"a")?)?;
+    names.push(Name::new(
+        alloc,
+        b"x23456789012345678901234567890123456789012345678901234567890123",
+    )?)?;
+    names.push(Name::new(alloc, b"y234567890123")?)?;
+    names.push(Name::new(alloc, b"z2345678901234")?)?;
     Ok(names)
 }
 
