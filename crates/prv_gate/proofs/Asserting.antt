@@ -1,16 +1,16 @@
 -- Assertions: what follows by propagation is so in each model, and the models are those in which one
 -- of the bits is true.
-use Rattle.std.proofs.Common.{◌≡◌, ℕ, suc, zero, ◌+◌, ◌-◌, ◌<◌, ◌≤◌, ◌↔◌, Bool, true, false, not, cond, ◌&&◌, ◌||◌, List, [], ◌∷◌, ◌++◌, map, take, replicate, Option, None, Some, option_map, length, get_or, ℤ, pos, negsuc, refl, ap, sym, ◌∙◌, subst, arith, IsTrue, if◌then◌else◌, ⊎_elim, inl, inr, length-append, unsigned_abs, neg_ℤ, ◌⊎◌, add-one, Result, Ok, Err}
+use Rattle.std.proofs.Common.{◌≡◌, ℕ, suc, zero, ◌+◌, ◌-◌, ◌<◌, ◌≤◌, ◌↔◌, Bool, true, false, not, ◌||◌, List, [], ◌∷◌, ◌++◌, take, replicate, Option, None, Some, length, get_or, pos, refl, ap, sym, ◌∙◌, subst, arith, if◌then◌else◌, ⊎_elim, inl, inr, length-append, ◌⊎◌, add-one, Result, Ok, Err}
 use Rattle.std.specs.Result.{OnOk}
 use Rattle.std.proofs.Math.Seq.{take-append_seam}
-use Rattle.std.specs.List.{list_all, list_any, AllByRecursion, range_with_len}
+use Rattle.std.specs.List.{list_all, list_any, AllByRecursion}
 use Rattle.std.specs.Option.{option_map_or, option_or}
 use Rattle.std.proofs.lemmas.List.FromFn.{get_or-map-range_with_len, length-map-range_with_len}
 use Rattle.std.proofs.lemmas.List.{get_or_past, take_all}
 use Rattle.std.proofs.lemmas.Bool.{cases_lt}
 use Rattle.prv_cnf.specs.declared.literal.Lit.{Lit}
-use Rattle.prv_cnf.specs.Literals.{variable, negate, signed_value, is_literal_true, same_literal, has_literal}
-use Rattle.prv_cnf.specs.Formulas.{Formula, IsFormula, IsLiteral}
+use Rattle.prv_cnf.specs.Literals.{variable, negate, is_literal_true, same_literal, has_literal}
+use Rattle.prv_cnf.specs.Formulas.{Formula, IsLiteral}
 use Rattle.prv_cnf.specs.Models.{IsModel, is_clause_true, HasNoModel}
 use Rattle.prv_cnf.proofs.Values.{is_literal_true-negate, same_literal-eq}
 use Rattle.prv_gate.specs.Bits.{IsBit, bit_value}

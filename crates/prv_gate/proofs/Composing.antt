@@ -1,9 +1,8 @@
 -- Steps one after another: what they add, and what their answers mean.
-use Rattle.std.proofs.Common.{◌≡◌, ℕ, suc, zero, ◌+◌, ◌<◌, ◌≤◌, Bool, true, false, not, List, [], ◌∷◌, length, refl, ap, sym, ◌∙◌, subst, arith, IsTrue, Result, Ok, Err}
+use Rattle.std.proofs.Common.{◌≡◌, ℕ, ◌+◌, ◌≤◌, Bool, refl, ap, sym, ◌∙◌, subst, arith, Result, Ok, Err}
 use Rattle.std.specs.Result.{OnOk, IfOk}
-use Rattle.prv_cnf.specs.Formulas.{IsLiteral}
 use Rattle.prv_cnf.specs.Models.{IsModel}
-use Rattle.prv_gate.specs.Bits.{IsBit, bit_value, negate_bit}
+use Rattle.prv_gate.specs.Bits.{IsBit}
 use Rattle.prv_gate.specs.Circuits.{Circuit, Run, give, and_then, IsCircuit}
 use Rattle.prv_gate.specs.Growth.{Agrees, Grows, Gives}
 use Rattle.prv_gate.specs.declared.bit.Bit.{Bit}

@@ -1,15 +1,14 @@
 -- What examining a clause tells of it.
-use Rattle.std.proofs.Common.{◌≡◌, ℕ, suc, zero, ◌+◌, ◌<◌, ◌≤◌, Bool, true, false, not, ◌&&◌, ◌||◌, List, [], ◌∷◌, Option, None, Some, option_map, ℤ, pos, negsuc, neg_ℤ, unsigned_abs, refl, ap, sym, ◌∙◌, subst, arith, if◌then◌else◌}
-use Rattle.std.specs.List.{list_all, list_any, AllByRecursion}
-use Rattle.std.specs.Option.{option_map_or, IfSome}
+use Rattle.std.proofs.Common.{◌≡◌, ℕ, suc, zero, ◌<◌, Bool, true, false, not, ◌&&◌, ◌||◌, List, [], ◌∷◌, Option, None, Some, option_map, ℤ, pos, negsuc, neg_ℤ, unsigned_abs, refl, ap, sym, ◌∙◌, subst, arith, if◌then◌else◌}
+use Rattle.std.specs.List.{list_all, AllByRecursion}
+use Rattle.std.specs.Option.{option_map_or}
 use Rattle.prv_cnf.specs.declared.literal.Lit.{Lit}
 use Rattle.prv_cnf.specs.Literals.{variable, negate, same_literal, has_literal}
 use Rattle.prv_cnf.specs.Formulas.{IsLiteral}
 use Rattle.prv_cnf.proofs.Values.{same_literal-eq, same_literal_refl}
 use Rattle.prv_gate.specs.Knowledge.{known_value, signed_known, known_literal}
-use Rattle.prv_gate.specs.Propagation.{is_known_true, is_known_false, forces}
-use Rattle.prv_gate.specs.Examining.{examined, by_value, beside, left}
-use Rattle.prv_gate.specs.declared.propagate.Examined.{Examined}
+use Rattle.prv_gate.specs.Propagation.{is_known_true, is_known_false}
+use Rattle.prv_gate.specs.Examining.{examined, by_value, beside}
 use Rattle.prv_gate.specs.declared.propagate.Examined.TheVariants.{Open, Forces, Conflict}
 use Rattle.prv_gate.proofs.Frames.{and-both, and-first, and-second}
 

@@ -1,11 +1,10 @@
 -- What a formula and its models keep: values of other variables, more variables, more clauses.
-use Rattle.std.proofs.Common.{◌≡◌, ℕ, suc, zero, ◌+◌, ◌<◌, ◌≤◌, Bool, true, false, not, ◌&&◌, ◌||◌, List, [], ◌∷◌, ◌++◌, ℤ, pos, negsuc, unsigned_abs, neg_ℤ, length, refl, ap, sym, ◌∙◌, subst, arith, IsTrue}
-use Rattle.std.specs.List.{list_all, list_any, AllByRecursion}
+use Rattle.std.proofs.Common.{◌≡◌, ℕ, suc, zero, ◌<◌, ◌≤◌, Bool, true, false, not, ◌&&◌, List, [], ◌∷◌, ◌++◌, ℤ, pos, negsuc, unsigned_abs, neg_ℤ, refl, ap, ◌∙◌, arith}
+use Rattle.std.specs.List.{list_all, AllByRecursion}
 use Rattle.prv_cnf.specs.declared.literal.Lit.{Lit}
 use Rattle.prv_cnf.specs.Literals.{variable, negate, signed_value, is_literal_true}
-use Rattle.prv_cnf.specs.Formulas.{Formula, IsFormula, IsLiteral}
-use Rattle.prv_cnf.specs.Models.{IsModel, is_clause_true}
-use Rattle.prv_cnf.specs.declared.formula.TheConstants.{MAX_VARS}
+use Rattle.prv_cnf.specs.Formulas.{IsLiteral}
+use Rattle.prv_cnf.specs.Models.{is_clause_true}
 use Rattle.prv_gate.specs.Growth.{Agrees}
 
 signed_abs-neg : (z : ℤ) → unsigned_abs (neg_ℤ z) ≡ unsigned_abs z

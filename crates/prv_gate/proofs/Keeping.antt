@@ -1,8 +1,8 @@
 -- What holds of each circuit holds after a variable, clauses, or an entry of the table.
-use Rattle.std.proofs.Common.{◌≡◌, ℕ, suc, zero, ◌+◌, ◌<◌, ◌≤◌, Bool, true, false, not, cond, ◌&&◌, List, [], ◌∷◌, ◌++◌, Option, None, Some, length, refl, ap, sym, ◌∙◌, subst, arith, IsTrue, ◌⊎◌, inl, inr, ⊎_elim, Result, Ok, Err}
+use Rattle.std.proofs.Common.{◌≡◌, ℕ, ◌+◌, ◌<◌, Bool, true, false, cond, ◌&&◌, List, [], ◌∷◌, ◌++◌, Option, None, Some, refl, ap, sym, ◌∙◌, subst, arith, ◌⊎◌, inl, inr, ⊎_elim, Result, Ok, Err}
 use Rattle.std.specs.List.{list_all, AllByRecursion}
 use Rattle.prv_cnf.specs.declared.literal.Lit.{Lit}
-use Rattle.prv_cnf.specs.Literals.{variable, negate, is_literal_true, same_literal}
+use Rattle.prv_cnf.specs.Literals.{is_literal_true, same_literal}
 use Rattle.prv_cnf.specs.Formulas.{Formula, IsFormula, IsLiteral}
 use Rattle.prv_cnf.specs.Models.{IsModel, is_clause_true}
 use Rattle.prv_cnf.specs.declared.formula.TheConstants.{MAX_VARS}

@@ -1,17 +1,16 @@
 -- The laws of the gates, for circuits that are made of them.
-use Rattle.std.proofs.Common.{◌≡◌, ℕ, suc, ◌+◌, ◌<◌, ◌≤◌, Bool, true, false, ◌&&◌, nat_lt, refl, ap, sym, ◌∙◌, arith, if◌then◌else◌}
+use Rattle.std.proofs.Common.{◌≡◌, ℕ, ◌+◌, ◌<◌, ◌≤◌, Bool, true, false, ◌&&◌, nat_lt, refl, ap, sym, ◌∙◌, arith, if◌then◌else◌}
 use Rattle.std.proofs.lemmas.Bool.Decides.{Decides-ltb}
 use Rattle.prv_cnf.specs.declared.formula.TheConstants.{MAX_VARS}
-use Rattle.prv_cnf.specs.Models.{IsModel}
 use Rattle.prv_gate.specs.Bits.{IsBit, bit_value}
 use Rattle.prv_gate.specs.Adders.{AreBits, bit_values, sum_and_carry}
 use Rattle.prv_gate.specs.Gates.{differ, majority}
 use Rattle.prv_gate.specs.Knowledge.{reduced}
 use Rattle.prv_gate.specs.Circuits.{Circuit, Run, give, and_then, known_bit, IsCircuit}
 use Rattle.prv_gate.specs.Folding.{and_gate, xor_gate, mux_gate, majority_gate, sum_gate, full_adder, parity_bits}
-use Rattle.prv_gate.specs.Growth.{Grows, Gives}
+use Rattle.prv_gate.specs.Growth.{Gives}
 use Rattle.prv_gate.specs.declared.bit.Bit.{Bit}
-use Rattle.prv_gate.proofs.Composing.{grows-then, bit-more, bit-kept, gives-here, gives-after, gives-more, gives-value, gives-value-after}
+use Rattle.prv_gate.proofs.Composing.{grows-then, bit-more, bit-kept, gives-here, gives-after, gives-value-after}
 use Rattle.prv_gate.proofs.Steps.{Step, step-value, reduced-inside, reduced-value}
 use Rattle.prv_gate.proofs.Pairs.{and_bits-step, xor_bits-step}
 use Rattle.prv_gate.proofs.Triples.{mux_bits-step, majority_bits-step, parity_bits-step}

@@ -1,24 +1,24 @@
 -- Each clause that is examined teaches what follows, and where all are open nothing more does.
-use Rattle.std.proofs.Common.{◌≡◌, ℕ, suc, zero, ◌+◌, ◌-◌, ◌<◌, ◌≤◌, ◌≢◌, Bool, true, false, not, cond, ◌&&◌, ◌||◌, List, [], ◌∷◌, Option, None, Some, option_map, length, get_or, set, ℤ, pos, negsuc, unsigned_abs, refl, ap, sym, ◌∙◌, subst, arith, if◌then◌else◌, ⊎_elim, inl, inr, ◌⊎◌, get_or-set_same, get_or-set_other}
-use Rattle.std.specs.List.{list_all, list_any, AllByRecursion, sum_by, count_by}
+use Rattle.std.proofs.Common.{◌≡◌, ℕ, suc, zero, ◌+◌, ◌-◌, ◌<◌, ◌≤◌, ◌≢◌, Bool, true, false, not, cond, ◌||◌, List, [], ◌∷◌, Option, None, Some, option_map, length, get_or, ℤ, pos, negsuc, unsigned_abs, refl, ap, sym, ◌∙◌, subst, arith, if◌then◌else◌, ⊎_elim, get_or-set_same, get_or-set_other}
+use Rattle.std.specs.List.{list_all, list_any, AllByRecursion}
 use Rattle.std.specs.Option.{option_map_or, option_or, is_none}
 use Rattle.std.proofs.lemmas.List.{ext_get_or}
 use Rattle.std.proofs.lemmas.List.Sums.{sum_by-set, count_by-le-length}
 use Rattle.std.proofs.lemmas.Bool.Decides.{eqb_tells}
 use Rattle.std.proofs.Math.ListN.{length-set}
 use Rattle.prv_cnf.specs.declared.literal.Lit.{Lit}
-use Rattle.prv_cnf.specs.Literals.{variable, negate, same_literal, has_literal}
+use Rattle.prv_cnf.specs.Literals.{variable, negate, has_literal}
 use Rattle.prv_cnf.specs.Formulas.{Formula, IsLiteral}
 use Rattle.prv_gate.specs.Gates.{is_negative, is_negative_number}
 use Rattle.prv_gate.specs.Knowledge.{known_value, signed_known, known_literal}
-use Rattle.prv_gate.specs.Propagation.{is_known_true, is_known_false, forces, next_value, next_known, known_after, closure, has_conflict}
+use Rattle.prv_gate.specs.Propagation.{is_known_true, is_known_false, forces, known_after, closure, has_conflict}
 use Rattle.prv_gate.specs.Examining.{examined, known_by, learned, unknown_count, Within, IsReached, Learns}
 use Rattle.prv_gate.specs.declared.propagate.Examined.{Examined}
 use Rattle.prv_gate.specs.declared.propagate.Examined.TheVariants.{Open, Forces, Conflict}
-use Rattle.prv_gate.proofs.Frames.{and-both, and-first, and-second}
-use Rattle.prv_gate.proofs.Asserting.{known_value-next, known_value-past, closure-length}
+use Rattle.prv_gate.proofs.Frames.{and-second}
+use Rattle.prv_gate.proofs.Asserting.{known_value-next, closure-length}
 use Rattle.prv_gate.proofs.Examination.{known_literal-negate, others_false, conflict-all_false, forces-one, open-closed, open-no_conflict}
-use Rattle.prv_gate.proofs.Reaching.{within-refl, within-trans, others-within, all_false-within, conflict-within, any-at, clause-at, rounds-inside, rounds-more, rounds-up, forced}
+use Rattle.prv_gate.proofs.Reaching.{within-refl, within-trans, others-within, conflict-within, any-at, clause-at, rounds-inside, rounds-more, rounds-up, forced}
 
 pub learns-refl : (f : Formula) (a : List (Option Bool)) → Learns f a a
 learns-refl f a = record { size = refl; fewer = omega arith; keeps = within-refl a; reached = λ start short r. r }

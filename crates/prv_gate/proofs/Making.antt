@@ -1,21 +1,21 @@
 -- A gate that is made: its output has the gate's value, and no other extension is a model.
-use Rattle.std.proofs.Common.{◌≡◌, ℕ, suc, zero, ◌+◌, ◌<◌, ◌≤◌, Bool, true, false, not, cond, ◌&&◌, ◌==◌, List, [], ◌∷◌, ◌++◌, Option, None, Some, length, pos, refl, ap, sym, ◌∙◌, subst, arith, IsTrue, length-append, ◌≢◌, ⊎_elim, if◌then◌else◌}
-use Rattle.std.specs.List.{list_all, AllByRecursion}
+use Rattle.std.proofs.Common.{◌≡◌, ℕ, ◌+◌, ◌<◌, ◌≤◌, Bool, true, cond, ◌==◌, Option, None, Some, length, refl, ap, sym, ◌∙◌, arith, length-append, ◌≢◌, ⊎_elim, if◌then◌else◌}
+use Rattle.std.specs.List.{list_all}
 use Rattle.std.specs.Option.{option_map_or}
 use Rattle.std.proofs.lemmas.Bool.Decides.{eqb_tells}
 use Rattle.prv_cnf.specs.declared.literal.Lit.{Lit}
-use Rattle.prv_cnf.specs.Literals.{variable, negate, is_literal_true}
-use Rattle.prv_cnf.specs.Formulas.{Formula, IsFormula, IsLiteral}
+use Rattle.prv_cnf.specs.Literals.{is_literal_true}
+use Rattle.prv_cnf.specs.Formulas.{IsLiteral}
 use Rattle.prv_cnf.specs.Models.{IsModel, is_clause_true}
 use Rattle.prv_cnf.specs.declared.formula.TheConstants.{MAX_VARS}
 use Rattle.prv_gate.specs.Gates.{gate_value, gate_clauses, HoldsOfInputs}
-use Rattle.prv_gate.specs.Circuits.{Circuit, Run, give, IsCircuit, with_variable, with_clauses, with_gate, next_output, defined, made, find_gate}
-use Rattle.prv_gate.specs.Growth.{Agrees, Grows, Gives}
+use Rattle.prv_gate.specs.Circuits.{Circuit, give, IsCircuit, with_variable, with_clauses, next_output, defined, made, find_gate}
+use Rattle.prv_gate.specs.Growth.{Agrees, Gives}
 use Rattle.prv_gate.specs.declared.gate.Gate.{Gate}
 use Rattle.prv_gate.proofs.Frames.{IsLiteral-more, clauses-agree}
 use Rattle.prv_gate.proofs.Keeping.{IsCircuit-variable, IsCircuit-clauses, IsCircuit-gate, IsModel-first, IsModel-last, IsModel-both}
-use Rattle.prv_gate.proofs.Tables.{same, same-eq, same-refl, gate_clauses-true, gate_value-agree, gate_clauses-inside, inputs-more}
-use Rattle.prv_gate.proofs.Composing.{agrees-refl, agrees-fewer, grows-here}
+use Rattle.prv_gate.proofs.Tables.{same-eq, same-refl, gate_clauses-true, gate_value-agree, gate_clauses-inside, inputs-more}
+use Rattle.prv_gate.proofs.Composing.{grows-here}
 
 -- the values with another one for one variable
 abbrev pub updated : (ℕ → Bool) → ℕ → Bool → ℕ → Bool

@@ -1,14 +1,14 @@
 -- The gates of two inputs: And, Or, Xor.
-use Rattle.std.proofs.Common.{◌≡◌, ℕ, suc, ◌+◌, ◌<◌, ◌≤◌, Bool, true, false, not, ◌&&◌, ◌||◌, ◌==◌, refl, ap, sym, ◌∙◌, arith, ⊎_elim}
+use Rattle.std.proofs.Common.{◌≡◌, ℕ, ◌<◌, Bool, true, false, not, ◌&&◌, ◌||◌, ◌==◌, refl, ap, ◌∙◌, arith}
 use Rattle.std.proofs.lemmas.Bool.Decides.{Decides-eqb}
 use Rattle.prv_cnf.specs.declared.literal.Lit.{Lit}
 use Rattle.prv_cnf.specs.Literals.{variable, negate, is_literal_true, same_literal}
 use Rattle.prv_cnf.specs.Formulas.{IsLiteral}
 use Rattle.prv_cnf.specs.declared.formula.TheConstants.{MAX_VARS}
 use Rattle.prv_cnf.proofs.Values.{is_literal_true-negate, same_literal-eq}
-use Rattle.prv_gate.specs.Bits.{IsBit, bit_value, negate_bit, constant, flip_bit}
-use Rattle.prv_gate.specs.Gates.{differ, is_negative, positive, ordered}
-use Rattle.prv_gate.specs.Circuits.{Circuit, Run, give, flipped, opposite, made, IsCircuit}
+use Rattle.prv_gate.specs.Bits.{IsBit, bit_value, negate_bit, constant}
+use Rattle.prv_gate.specs.Gates.{differ, is_negative, positive}
+use Rattle.prv_gate.specs.Circuits.{Circuit, flipped, made, IsCircuit}
 use Rattle.prv_gate.specs.Folding.{and_of, or_of, and_bits, or_bits, xor_of, xor_bits, equal_bits}
 use Rattle.prv_gate.specs.declared.bit.Bit.{Bit}
 use Rattle.prv_gate.specs.declared.bit.Bit.TheVariants.{False, True, Lit as Literal}

@@ -1,24 +1,19 @@
 -- Values that are found clause by clause are those of the closure.
-use Rattle.std.proofs.Common.{◌≡◌, ℕ, suc, zero, ◌+◌, ◌-◌, ◌<◌, ◌≤◌, ◌≢◌, Bool, true, false, not, ◌&&◌, ◌||◌, List, [], ◌∷◌, Option, None, Some, option_map, length, get_or, set, ℤ, pos, negsuc, neg_ℤ, unsigned_abs, refl, ap, sym, ◌∙◌, subst, arith, if◌then◌else◌, ⊎_elim, inl, inr, ◌⊎◌, add-one, add-zero, add-suc, get_or-set_same, get_or-set_other}
-use Rattle.std.specs.List.{list_all, list_any, AllByRecursion, sum_by, count_by}
-use Rattle.std.specs.Option.{option_map_or, option_or, is_none}
-use Rattle.std.proofs.lemmas.List.{get_or_past, same_lists}
-use Rattle.std.proofs.lemmas.List.Sums.{sum_by-set, count_by-le-length}
+use Rattle.std.proofs.Common.{◌≡◌, ℕ, suc, zero, ◌+◌, ◌-◌, ◌<◌, ◌≤◌, Bool, true, false, not, ◌||◌, List, [], ◌∷◌, Option, None, Some, option_map, length, get_or, ℤ, pos, negsuc, unsigned_abs, refl, ap, sym, ◌∙◌, subst, arith, if◌then◌else◌, ⊎_elim, add-zero, add-suc}
+use Rattle.std.specs.List.{list_all, list_any, AllByRecursion}
+use Rattle.std.specs.Option.{option_map_or, option_or}
+use Rattle.std.proofs.lemmas.List.{get_or_past}
 use Rattle.std.proofs.lemmas.Bool.{cases_lt}
-use Rattle.std.proofs.Math.ListN.{length-set}
 use Rattle.prv_cnf.specs.declared.literal.Lit.{Lit}
 use Rattle.prv_cnf.specs.Literals.{variable, negate, same_literal, has_literal}
 use Rattle.prv_cnf.specs.Formulas.{Formula, IsLiteral}
 use Rattle.prv_cnf.proofs.Values.{same_literal-eq}
-use Rattle.prv_gate.specs.Gates.{is_negative, is_negative_number}
 use Rattle.prv_gate.specs.Knowledge.{known_value, signed_known, known_literal}
-use Rattle.prv_gate.specs.Propagation.{is_known_true, is_known_false, forces, next_value, next_known, known_after, closure, has_conflict}
-use Rattle.prv_gate.specs.Examining.{examined, known_by, learned, unknown_count, Within, IsReached, Learns}
-use Rattle.prv_gate.specs.declared.propagate.Examined.{Examined}
-use Rattle.prv_gate.specs.declared.propagate.Examined.TheVariants.{Open, Forces, Conflict}
+use Rattle.prv_gate.specs.Propagation.{is_known_true, is_known_false, forces, known_after, closure, has_conflict}
+use Rattle.prv_gate.specs.Examining.{Within}
 use Rattle.prv_gate.proofs.Frames.{and-both, and-first, and-second, variable-negate}
-use Rattle.prv_gate.proofs.Asserting.{known_value-next, known_value-past, closure-length}
-use Rattle.prv_gate.proofs.Examination.{known_literal-negate, false-of, others_false, conflict-all_false, forces-one, open-closed, open-no_conflict}
+use Rattle.prv_gate.proofs.Asserting.{known_value-next, known_value-past}
+use Rattle.prv_gate.proofs.Examination.{false-of, others_false}
 
 pub within-refl : (a : List (Option Bool)) → Within a a
 within-refl a k x some e = e

@@ -1,6 +1,5 @@
 -- The derived `==` of gates is `same_gate`.
-use Rattle.std.proofs.Common.{◌≡◌, refl, List, ap, Bool}
-use Rattle.prv_cnf.specs.declared.literal.Lit.{Lit}
+use Rattle.std.proofs.Common.{◌≡◌, refl}
 use Rattle.prv_gate.specs.Gates.{same_gate}
 use Rattle.prv_gate.specs.declared.gate.Gate.{Gate}
 use Rattle.prv_gate.specs.declared.gate.Gate.TheVariants.{And, Xor, Mux, Majority, Parity}

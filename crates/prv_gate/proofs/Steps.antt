@@ -1,8 +1,8 @@
 -- Gates over bits as steps that make at most one variable: what they fold to, and their values.
-use Rattle.std.proofs.Common.{◌≡◌, ℕ, suc, zero, ◌+◌, ◌<◌, ◌≤◌, Bool, true, false, not, cond, ◌&&◌, ◌||◌, ◌==◌, nat_le, Option, None, Some, ℤ, pos, negsuc, option_map, refl, ap, sym, ◌∙◌, subst, arith, if◌then◌else◌, List}
+use Rattle.std.proofs.Common.{◌≡◌, ℕ, suc, ◌+◌, ◌<◌, ◌≤◌, Bool, true, false, not, nat_le, Option, None, Some, ℤ, pos, negsuc, option_map, refl, ap, sym, ◌∙◌, arith, if◌then◌else◌, List}
 use Rattle.std.specs.Option.{option_map_or}
 use Rattle.prv_cnf.specs.declared.literal.Lit.{Lit}
-use Rattle.prv_cnf.specs.Literals.{variable, negate, signed_value, is_literal_true, same_literal}
+use Rattle.prv_cnf.specs.Literals.{variable, signed_value, is_literal_true}
 use Rattle.prv_cnf.specs.Formulas.{IsLiteral}
 use Rattle.prv_cnf.specs.Models.{IsModel}
 use Rattle.prv_cnf.specs.declared.formula.TheConstants.{MAX_VARS}

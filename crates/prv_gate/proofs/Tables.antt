@@ -1,8 +1,8 @@
 -- The clauses of a gate are true exactly where its output has the gate's value.
-use Rattle.std.proofs.Common.{◌≡◌, ℕ, suc, zero, ◌+◌, ◌<◌, ◌≤◌, Bool, true, false, not, cond, ◌&&◌, ◌||◌, List, [], ◌∷◌, ◌++◌, length, refl, ap, sym, ◌∙◌, subst, arith}
-use Rattle.std.specs.List.{list_all, list_any, AllByRecursion}
+use Rattle.std.proofs.Common.{◌≡◌, ℕ, ◌+◌, Bool, true, false, not, cond, ◌&&◌, ◌||◌, ◌++◌, refl, ap, sym, ◌∙◌, subst, arith}
+use Rattle.std.specs.List.{list_all, AllByRecursion}
 use Rattle.prv_cnf.specs.declared.literal.Lit.{Lit}
-use Rattle.prv_cnf.specs.Literals.{variable, negate, is_literal_true}
+use Rattle.prv_cnf.specs.Literals.{negate, is_literal_true}
 use Rattle.prv_cnf.specs.Formulas.{Formula, IsLiteral}
 use Rattle.prv_cnf.specs.Models.{IsModel, is_clause_true}
 use Rattle.prv_cnf.proofs.Values.{is_literal_true-negate}

@@ -1,13 +1,13 @@
 -- The gates of three inputs: a choice, a majority, a parity.
-use Rattle.std.proofs.Common.{◌≡◌, ℕ, suc, ◌+◌, ◌<◌, ◌≤◌, Bool, true, false, not, cond, ◌&&◌, ◌||◌, refl, ap, sym, ◌∙◌, arith, if◌then◌else◌}
+use Rattle.std.proofs.Common.{◌≡◌, ℕ, ◌<◌, Bool, true, false, not, cond, ◌&&◌, ◌||◌, refl, ap, sym, ◌∙◌, arith, if◌then◌else◌}
 use Rattle.prv_cnf.specs.declared.literal.Lit.{Lit}
-use Rattle.prv_cnf.specs.Literals.{variable, negate, is_literal_true, same_literal}
+use Rattle.prv_cnf.specs.Literals.{negate, is_literal_true, same_literal}
 use Rattle.prv_cnf.specs.Formulas.{IsLiteral}
 use Rattle.prv_cnf.specs.declared.formula.TheConstants.{MAX_VARS}
 use Rattle.prv_cnf.proofs.Values.{is_literal_true-negate}
-use Rattle.prv_gate.specs.Bits.{IsBit, bit_value, negate_bit}
+use Rattle.prv_gate.specs.Bits.{IsBit, bit_value}
 use Rattle.prv_gate.specs.Gates.{differ, majority, is_negative, ordered}
-use Rattle.prv_gate.specs.Circuits.{Circuit, Run, give, flipped, opposite, made, IsCircuit}
+use Rattle.prv_gate.specs.Circuits.{Circuit, IsCircuit}
 use Rattle.prv_gate.specs.Folding.{mux_made, mux_signed, mux_of, mux_bits, majority_made, majority_ordered, majority_of, majority_bits, parity_of, parity_bits}
 use Rattle.prv_gate.specs.declared.bit.Bit.{Bit}
 use Rattle.prv_gate.specs.declared.bit.Bit.TheVariants.{False, True, Lit as Literal}

@@ -1,6 +1,5 @@
 -- Bits of a circuit: constants and literals.
-use Rattle.std.specs.Prelude.{ℕ, Bool, true, false, not}
-use Rattle.prv_cnf.specs.declared.literal.Lit.{Lit}
+use Rattle.std.specs.Prelude.{ℕ, Bool, true, false}
 use Rattle.prv_cnf.specs.Literals.{negate, is_literal_true}
 use Rattle.prv_cnf.specs.Formulas.{IsLiteral}
 use Rattle.prv_gate.specs.declared.bit.Bit.{Bit}

@@ -3,10 +3,10 @@ use Rattle.std.specs.Prelude.{◌≡◌, ℕ, ◌+◌, ◌<◌, ◌≤◌, lengt
 use Rattle.std.specs.Map.{lookup}
 use Rattle.std.specs.Option.{option_map_or}
 use Rattle.prv_cnf.specs.declared.literal.Lit.{Lit}
-use Rattle.prv_cnf.specs.Literals.{variable, is_literal_true}
+use Rattle.prv_cnf.specs.Literals.{is_literal_true}
 use Rattle.prv_cnf.specs.Formulas.{Formula, IsFormula, IsLiteral}
 use Rattle.prv_cnf.specs.Models.{IsModel, HasNoModel}
-use Rattle.prv_gate.specs.Bits.{IsBit, negate_bit, flip_bit}
+use Rattle.prv_gate.specs.Bits.{negate_bit, flip_bit}
 use Rattle.prv_gate.specs.Gates.{gate_value, gate_clauses, same_gate, HoldsOfInputs}
 use Rattle.prv_gate.specs.Knowledge.{known_value, known_literal, reduced}
 use Rattle.prv_gate.specs.declared.bit.Bit.{Bit}

@@ -1,6 +1,6 @@
 -- Gates over bits: constants, equal and opposite inputs fold, and the others are made once each,
 -- with their inputs in order and signs at the output where the gate allows it.
-use Rattle.std.specs.Prelude.{ℕ, ◌+◌, ◌==◌, nat_lt, Bool, true, false, if◌then◌else◌}
+use Rattle.std.specs.Prelude.{◌+◌, ◌==◌, nat_lt, true, false, if◌then◌else◌}
 use Rattle.prv_cnf.specs.declared.literal.Lit.{Lit}
 use Rattle.prv_cnf.specs.declared.formula.TheConstants.{MAX_VARS}
 use Rattle.prv_cnf.specs.Literals.{variable, negate, same_literal}

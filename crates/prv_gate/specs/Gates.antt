@@ -1,8 +1,7 @@
 -- Gates over literals: their values, and the clauses that fix their outputs.
-use Rattle.std.specs.Prelude.{ℕ, Bool, true, false, not, ◌&&◌, ◌||◌, ◌==◌, nat_le, cond, List, [], ◌∷◌, ℤ, pos, negsuc, if◌then◌else◌}
+use Rattle.std.specs.Prelude.{ℕ, Bool, true, false, not, ◌&&◌, ◌||◌, nat_le, List, [], ◌∷◌, ℤ, pos, negsuc, if◌then◌else◌}
 use Rattle.prv_cnf.specs.declared.literal.Lit.{Lit}
 use Rattle.prv_cnf.specs.Literals.{variable, negate, is_literal_true, same_literal}
-use Rattle.prv_cnf.specs.Formulas.{IsLiteral}
 use Rattle.prv_gate.specs.declared.gate.Gate.{Gate}
 use Rattle.prv_gate.specs.declared.gate.Gate.TheVariants.{And, Xor, Mux, Majority, Parity}
 

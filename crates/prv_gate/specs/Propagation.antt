@@ -1,5 +1,5 @@
 -- Unit propagation: what follows from clauses and from what is known, clause by clause.
-use Rattle.std.specs.Prelude.{ℕ, zero, suc, ◌+◌, pos, negsuc, Bool, true, false, ◌&&◌, ◌||◌, List, map, Option, None, Some, if◌then◌else◌}
+use Rattle.std.specs.Prelude.{ℕ, zero, suc, ◌+◌, pos, Bool, true, false, ◌&&◌, ◌||◌, List, map, Option, None, Some, if◌then◌else◌}
 use Rattle.std.specs.List.{list_any, list_all, range_with_len}
 use Rattle.std.specs.Option.{option_map_or, option_or}
 use Rattle.prv_cnf.specs.declared.literal.Lit.{Lit}

@@ -1,4 +1,4 @@
-use Rattle.std.proofs.Common.{◌≡◌, refl, length}
+use Rattle.std.proofs.Common.{refl}
 use Rattle.prv_gate.proofs.Learning.{passes-learn, passes-calm, passes-closure, passes-conflict}
 use Rattle.prv_gate.proofs.propagate.propagate.Goals as goal
 

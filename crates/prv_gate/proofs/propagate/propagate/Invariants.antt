@@ -1,4 +1,4 @@
-use Rattle.std.proofs.Common.{◌≡◌, length}
+use Rattle.std.proofs.Common.{length}
 use Rattle.prv_gate.specs.Examining.{unknown_count, Learns}
 use Rattle.prv_gate.proofs.propagate.propagate.Given as goal
 

@@ -1,5 +1,4 @@
-use Rattle.std.proofs.Common.{◌≡◌, ℕ, ◌+◌, ◌<◌, ◌∙◌, sym, ap, refl, length, get_or, [], List, Bool, true, false, below_more, arith, None, Option}
-use Rattle.prv_cnf.specs.declared.literal.Lit.{Lit}
+use Rattle.std.proofs.Common.{◌≡◌, ℕ, ◌<◌, ◌∙◌, sym, ap, refl, length, get_or, [], List, Bool, true, false, below_more, arith, None, Option}
 use Rattle.prv_cnf.specs.Formulas.{Formula}
 use Rattle.prv_gate.specs.Examining.{examined, unknown_count}
 use Rattle.prv_gate.specs.declared.propagate.Examined.TheVariants.{Open}

@@ -1,4 +1,4 @@
-use Rattle.std.proofs.Common.{◌≡◌, sym, length, None}
+use Rattle.std.proofs.Common.{sym, length}
 use Rattle.prv_gate.proofs.Examination.{forces-one}
 use Rattle.prv_gate.proofs.propagate.visit.Goals as goal
 

@@ -1,7 +1,7 @@
-use Rattle.std.proofs.Common.{◌≡◌, ◌<◌, subst, sym}
+use Rattle.std.proofs.Common.{◌<◌, subst, sym}
 use Rattle.prv_cnf.specs.Formulas.{Formula}
 use Rattle.prv_cnf.specs.declared.formula.TheConstants.{MAX_VARS}
-use Rattle.prv_gate.specs.Circuits.{Circuit, IsCircuit}
+use Rattle.prv_gate.specs.Circuits.{IsCircuit}
 use Rattle.prv_gate.proofs.Keeping.{IsCircuit-variable}
 use Rattle.prv_gate.proofs.builder.Builder.add_variable.Goals as goal
 

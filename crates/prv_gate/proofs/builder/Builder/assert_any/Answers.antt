@@ -1,4 +1,4 @@
-use Rattle.std.proofs.Common.{◌≡◌, ◌∙◌, Bool, true, false, List, Option, None, Some, option_map, subst, sym, ap, Vec, Global}
+use Rattle.std.proofs.Common.{◌≡◌, ◌∙◌, List, Option, None, Some, option_map, subst, sym, ap, Vec, Global}
 use Rattle.std.specs.List.{AllByRecursion}
 use Rattle.prv_cnf.specs.declared.literal.Lit.{Lit}
 use Rattle.prv_cnf.specs.Formulas.{IsLiteral}

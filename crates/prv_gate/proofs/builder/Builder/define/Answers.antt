@@ -1,4 +1,4 @@
-use Rattle.std.proofs.Common.{◌≡◌, ap, sym, subst, arith}
+use Rattle.std.proofs.Common.{ap, sym, subst, arith}
 use Rattle.prv_cnf.specs.Formulas.{Formula, IsLiteral}
 use Rattle.prv_gate.specs.Gates.{HoldsOfInputs}
 use Rattle.prv_gate.specs.Circuits.{Circuit}

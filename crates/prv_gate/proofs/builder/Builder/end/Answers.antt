@@ -1,6 +1,6 @@
-use Rattle.std.proofs.Common.{◌≡◌, Bool, true, List, [], Option, subst, sym}
+use Rattle.std.proofs.Common.{Bool, true, List, [], Option, subst, sym}
 use Rattle.prv_cnf.specs.Formulas.{Formula}
-use Rattle.prv_gate.specs.Circuits.{Circuit, IsCircuit}
+use Rattle.prv_gate.specs.Circuits.{IsCircuit}
 use Rattle.prv_gate.proofs.Asserting.{ended-circuit}
 use Rattle.prv_gate.proofs.builder.Builder.end.Goals as goal
 

@@ -1,6 +1,5 @@
-use Rattle.std.proofs.Common.{◌≡◌, subst, rules, arith}
-use Rattle.std.proofs.lemmas.Grind.{common_steps}
-use Rattle.prv_gate.specs.Circuits.{Circuit, IsCircuit, find_gate}
+use Rattle.std.proofs.Common.{◌≡◌, subst, rules}
+use Rattle.prv_gate.specs.Circuits.{IsCircuit, find_gate}
 use Rattle.prv_gate.proofs.Keeping.{found-inside}
 use Rattle.prv_gate.proofs.builder.Builder.find.Goals as goal
 

@@ -1,6 +1,6 @@
-use Rattle.std.proofs.Common.{◌≡◌, ◌∙◌, ap}
+use Rattle.std.proofs.Common.{◌∙◌, ap}
 use Rattle.prv_gate.specs.Circuits.{Run, give, and_then}
-use Rattle.prv_gate.specs.Folding.{sum_gate, majority_gate, full_adder}
+use Rattle.prv_gate.specs.Folding.{majority_gate, full_adder}
 use Rattle.prv_gate.specs.declared.bit.Bit.{Bit}
 use Rattle.prv_gate.proofs.Laws.{pair-gives}
 use Rattle.prv_gate.proofs.builder.Builder.full_adder.Goals as goal

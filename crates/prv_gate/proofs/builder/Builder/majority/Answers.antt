@@ -1,8 +1,7 @@
-use Rattle.std.proofs.Common.{◌≡◌, ◌<◌, ◌≤◌, ◌+◌, Bool, arith, if◌then◌else◌}
+use Rattle.std.proofs.Common.{◌≤◌, ◌+◌, arith}
 use Rattle.prv_gate.specs.Bits.{IsBit, bit_value}
 use Rattle.prv_gate.specs.Gates.{majority}
-use Rattle.prv_gate.specs.Circuits.{Circuit, Run}
-use Rattle.prv_gate.specs.Folding.{majority_gate, majority_bits}
+use Rattle.prv_gate.specs.Folding.{majority_gate}
 use Rattle.prv_gate.specs.Growth.{Gives}
 use Rattle.prv_gate.proofs.Composing.{of_run, of_circuit}
 use Rattle.prv_gate.proofs.Laws.{majority_gate-gives, majority_gate-vars}

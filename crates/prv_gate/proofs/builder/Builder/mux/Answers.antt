@@ -1,8 +1,6 @@
-use Rattle.std.proofs.Common.{◌≡◌, ◌<◌, ◌≤◌, ◌+◌, Bool, arith, if◌then◌else◌}
+use Rattle.std.proofs.Common.{◌≤◌, ◌+◌, arith, if◌then◌else◌}
 use Rattle.prv_gate.specs.Bits.{IsBit, bit_value}
-use Rattle.prv_gate.specs.Gates.{majority}
-use Rattle.prv_gate.specs.Circuits.{Circuit, Run}
-use Rattle.prv_gate.specs.Folding.{mux_gate, mux_bits}
+use Rattle.prv_gate.specs.Folding.{mux_gate}
 use Rattle.prv_gate.specs.Growth.{Gives}
 use Rattle.prv_gate.proofs.Composing.{of_run, of_circuit}
 use Rattle.prv_gate.proofs.Laws.{mux_gate-gives, mux_gate-vars}

@@ -1,8 +1,7 @@
-use Rattle.std.proofs.Common.{◌≡◌, List, [], ◌∷◌, ◌++◌, subst, sym}
+use Rattle.std.proofs.Common.{[], ◌∷◌}
 use Rattle.std.specs.List.{AllByRecursion}
-use Rattle.prv_cnf.specs.declared.literal.Lit.{Lit}
 use Rattle.prv_cnf.specs.Formulas.{Formula, IsLiteral}
-use Rattle.prv_gate.specs.Circuits.{Circuit, IsCircuit}
+use Rattle.prv_gate.specs.Circuits.{IsCircuit}
 use Rattle.prv_gate.proofs.Keeping.{IsCircuit-clauses, after_change}
 use Rattle.prv_gate.proofs.builder.Builder.push.Goals as goal
 

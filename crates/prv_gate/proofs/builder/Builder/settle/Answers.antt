@@ -1,5 +1,4 @@
-use Rattle.std.proofs.Common.{◌≡◌, ◌∙◌, ◌≤◌, ℕ, Bool, refl, List, [], Option, None, subst, sym, ap, length, take, drop, ◌++◌, arith, vec_len}
-use Rattle.prv_cnf.specs.Formulas.{Formula}
+use Rattle.std.proofs.Common.{◌≡◌, ◌∙◌, ◌≤◌, ℕ, Bool, refl, List, Option, subst, sym, ap, length, take, drop, ◌++◌, arith, vec_len}
 use Rattle.prv_gate.specs.Knowledge.{known_value}
 use Rattle.prv_gate.specs.Circuits.{Circuit, IsCircuit}
 use Rattle.prv_gate.specs.Assertions.{settled, ended}

@@ -1,10 +1,8 @@
-use Rattle.std.proofs.Common.{◌≡◌, ◌<◌, ◌≤◌, ◌+◌, Bool, arith}
+use Rattle.std.proofs.Common.{◌<◌, ◌≤◌, ◌+◌, arith}
 use Rattle.prv_cnf.specs.declared.formula.TheConstants.{MAX_VARS}
 use Rattle.prv_gate.specs.Bits.{IsBit, bit_value}
 use Rattle.prv_gate.specs.Gates.{differ}
-use Rattle.prv_gate.specs.Knowledge.{reduced}
-use Rattle.prv_gate.specs.Circuits.{Circuit, Run}
-use Rattle.prv_gate.specs.Folding.{xor_gate, sum_gate, parity_bits}
+use Rattle.prv_gate.specs.Folding.{xor_gate}
 use Rattle.prv_gate.specs.Growth.{Gives}
 use Rattle.prv_gate.proofs.Composing.{of_run, of_circuit, run_after, run_as}
 use Rattle.prv_gate.proofs.Laws.{sum_gate-gives, sum_gate-vars, sum_gate-two, sum_gate-one}

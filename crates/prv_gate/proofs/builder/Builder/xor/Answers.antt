@@ -1,12 +1,8 @@
-use Rattle.std.proofs.Common.{◌≡◌, ◌<◌, ◌≤◌, ◌+◌, Bool, ◌&&◌, subst, sym, arith, ap}
-use Rattle.std.specs.Result.{IfOk}
-use Rattle.prv_cnf.specs.declared.formula.TheConstants.{MAX_VARS}
+use Rattle.std.proofs.Common.{◌≤◌, ◌+◌, arith}
 use Rattle.prv_gate.specs.Bits.{IsBit, bit_value}
 use Rattle.prv_gate.specs.Gates.{differ}
-use Rattle.prv_gate.specs.Circuits.{Circuit, Run}
-use Rattle.prv_gate.specs.Folding.{xor_gate, xor_bits}
+use Rattle.prv_gate.specs.Folding.{xor_gate}
 use Rattle.prv_gate.specs.Growth.{Gives}
-use Rattle.prv_gate.specs.declared.bit.Bit.{Bit}
 use Rattle.prv_gate.proofs.Composing.{of_run, of_circuit}
 use Rattle.prv_gate.proofs.Laws.{xor_gate-gives, xor_gate-vars}
 use Rattle.prv_gate.proofs.builder.Builder.xor.Goals as goal
