@@ -5,7 +5,7 @@ use Rattle.std.specs.declared.cmp.Ordering.TheVariants.{Less, Equal, Greater}
 use Rattle.std.specs.Ordering.{ordering_then, nat_cmp, int_cmp, MatchOrdering}
 use Rattle.std.specs.Cmp.{IsTotalOrder, Equal-is, ranks, int_ranks, one_rank, below_irrefl, below_chain}
 use Rattle.std.proofs.lemmas.Int.{ints}
-use Rattle.std.proofs.lemmas.Cmp.{int_cmp_total, lists_total, on_total, tied_itself}
+use Rattle.std.proofs.lemmas.Cmp.{nat_cmp_total, int_cmp_total, lists_total, on_total, tied_itself}
 use Rattle.std.specs.Cmp.Lexicographic.{slice_cmp}
 use Rattle.prv_model.specs.TermOrder.{op_rank, rank, node_cmp, term_cmp, same_term}
 use Rattle.prv_model.specs.declared.op.TermOp.{TermOp}
@@ -36,8 +36,11 @@ nat-equal m n Less h e = cc
 nat-equal m n Equal h e = h
 nat-equal m n Greater h e = cc
 
-nat_cmp-Equal : (m n : ℕ) → nat_cmp m n ≡ Equal → m ≡ n
+pub nat_cmp-Equal : (m n : ℕ) → nat_cmp m n ≡ Equal → m ≡ n
 nat_cmp-Equal m n e = nat-equal m n (nat_cmp m n) (ranks m n) e
+
+pub nat_cmp-same : (m n : ℕ) → m ≡ n → nat_cmp m n ≡ Equal
+nat_cmp-same m n e = subst (λ k. nat_cmp m k ≡ Equal) e (tied_itself nat_cmp_total m)
 
 int-equal : (m n : ℤ) (o : Ordering) → MatchOrdering o (m <ℤ n) (m ≡ n) (n <ℤ m) → o ≡ Equal → m ≡ n
 int-equal m n Less h e = cc
@@ -232,7 +235,7 @@ along-step y u xs ys = subst (λ v. code_cmp (code (roll-Term (terms_of y)) ++ x
 along : (t : Term) → Along t
 along t = ind-Term Along (λ z y is. subst (λ w. Along (roll-Term w)) is (along-step y)) t
 
-then-Equal : (o : Ordering) → ordering_then o Equal ≡ o
+pub then-Equal : (o : Ordering) → ordering_then o Equal ≡ o
 then-Equal Less = refl
 then-Equal Equal = refl
 then-Equal Greater = refl
@@ -306,3 +309,7 @@ term_cmp-equal t u = (term_cmp-Equal t u, λ e. subst (λ v. term_cmp t v ≡ Eq
 
 pub same_term-same : (t u : Term) → (same_term t u ≡ true) ↔ (t ≡ u)
 same_term-same t u = (λ e. term_cmp-Equal t u ((Equal-is (term_cmp t u)).0 e), λ e. (Equal-is (term_cmp t u)).1 ((term_cmp-equal t u).1 e))
+
+-- the order of two terms by their nodes
+pub term_cmp-out : (x z : Term-F Term) (t u : Term) → out-Term t ≡ x → out-Term u ≡ z → term_cmp t u ≡ nodes_cmp x z
+term_cmp-out x z t u e f = (λ i. term_cmp (sym (roll-out-Term t) i) (sym (roll-out-Term u) i)) ∙ term_cmp-roll (out-Term t) (out-Term u) ∙ (λ i. nodes_cmp (e i) (f i))

@@ -38,5 +38,5 @@ pub use op::{BinOp, TermOp, UnOp};
 pub use outcome::{Ending, Outcome};
 pub use program::{Pair, Program};
 pub use stmt::Stmt;
-pub use term::{Term, holds, value_of};
+pub use term::{Term, holds, total, value_of};
 pub use verdict::{Verdict, compare};

@@ -15,8 +15,9 @@ impl Term {
     {
         match (self, other) {
             (Term::Param(j), Term::Param(k)) => (*j).cmp(k),
-            (Term::Op(o, a, b), Term::Op(p, x, y)) => op_place(*o)
-                .cmp(&op_place(*p))
+            (Term::Op(o, a, b), Term::Op(p, x, y)) => o
+                .rank()
+                .cmp(&p.rank())
                 .then(a.get().order(x.get()).then(b.get().order(y.get()))),
             (Term::Pick(t, a, b), Term::Pick(u, x, y)) => t
                 .get()
@@ -41,30 +42,32 @@ fn place(term: &Term) -> u8
 {
     match term {
         Term::Param(_) => 0,
-        Term::Op(op, _, _) => op_place(*op),
+        Term::Op(op, _, _) => op.rank(),
         Term::Pick(_, _, _) => 15,
         Term::Num(_) => 16,
     }
 }
 
-/// Where an operator stands in the order.
-fn op_place(op: TermOp) -> u8
-    ensures { result ≡ op_rank op }
-{
-    match op {
-        TermOp::Add => 1,
-        TermOp::Sub => 2,
-        TermOp::Mul => 3,
-        TermOp::Div => 4,
-        TermOp::Rem => 5,
-        TermOp::Shl => 6,
-        TermOp::Shr => 7,
-        TermOp::And => 8,
-        TermOp::Or => 9,
-        TermOp::Xor => 10,
-        TermOp::Lt => 11,
-        TermOp::Le => 12,
-        TermOp::Eq => 13,
-        TermOp::Ne => 14,
+impl TermOp {
+    /// Where an operator stands among the constructors in the order of terms, from 1 to 14.
+    pub fn rank(self) -> u8
+        ensures { result ≡ op_rank self }
+    {
+        match self {
+            TermOp::Add => 1,
+            TermOp::Sub => 2,
+            TermOp::Mul => 3,
+            TermOp::Div => 4,
+            TermOp::Rem => 5,
+            TermOp::Shl => 6,
+            TermOp::Shr => 7,
+            TermOp::And => 8,
+            TermOp::Or => 9,
+            TermOp::Xor => 10,
+            TermOp::Lt => 11,
+            TermOp::Le => 12,
+            TermOp::Eq => 13,
+            TermOp::Ne => 14,
+        }
     }
 }

@@ -44,7 +44,7 @@ pub fn holds(terms: &[Term], words: &[i32]) -> bool
 }
 
 /// A term's operator on two words: that of the program, and 0 for a division by 0.
-fn total(op: TermOp, a: i32, b: i32) -> i32
+pub fn total(op: TermOp, a: i32, b: i32) -> i32
     ensures { result ≡ total_of op a b }
 {
     apply(bin_op(op), a, b).unwrap_or(0)
