@@ -7,8 +7,6 @@
 mod error;
 mod laws;
 mod read;
-#[cfg(test)]
-mod tests;
 
 pub use error::{FileRefusal, VersionError};
 pub use laws::{one_reason, one_version, version_or_refusal};
