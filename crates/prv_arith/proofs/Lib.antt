@@ -1,0 +1,17 @@
+pub mod ListLaws
+pub mod Joining
+pub mod GateLaws
+pub mod PairLaws
+pub mod SumLaws
+pub mod OrderLaws
+pub mod ProductLaws
+pub mod ShiftLaws
+pub mod DivisionSteps
+pub mod DivisionLaws
+pub mod QuotientLaws
+pub mod DivisionRuns
+pub mod OperatorLaws
+pub mod LoopLaws
+pub mod RunLaws
+pub mod StageLaws
+pub mod StepLaws

@@ -1,0 +1,9 @@
+pub mod Lists
+pub mod Pairs
+pub mod Sums
+pub mod Orders
+pub mod Products
+pub mod Quotients
+pub mod Shifts
+pub mod Costs
+pub mod Words
