@@ -1,5 +1,5 @@
 -- What the code of a division of words knows.
-use Rattle.std.proofs.Common.{◌≡◌, ℕ, ◌+◌, ◌-◌, ◌*◌, ◌≤◌, List, [], length, take, drop, replicate, refl, sym, ap, ap₂, subst, ◌∙◌, arith, length-drop, length-take}
+use Rattle.std.proofs.Common.{◌≡◌, ℕ, ◌+◌, ◌*◌, ◌≤◌, List, [], length, take, drop, replicate, refl, sym, ap, ap₂, subst, ◌∙◌, arith, length-drop, length-take}
 use Rattle.std.proofs.Math.Nat.{mul-le-mul}
 use Rattle.std.proofs.lemmas.List.{take-map, drop-map}
 use Rattle.prv_gate.specs.Bits.{IsBit, negate_bit}

@@ -1,5 +1,5 @@
 -- What the quotients and remainders of words give.
-use Rattle.std.proofs.Common.{◌≡◌, ℕ, zero, suc, ◌+◌, ◌-◌, ◌*◌, ◌/◌, ◌%◌, ◌<◌, ◌≤◌, Bool, true, false, not, ◌&&◌, List, [], length, drop, replicate, ℤ, pos, negsuc, refl, sym, ap, ap₂, ◌∙◌, arith, length-drop, nat_abs}
+use Rattle.std.proofs.Common.{◌≡◌, ℕ, zero, suc, ◌+◌, ◌*◌, ◌/◌, ◌%◌, ◌<◌, ◌≤◌, Bool, true, false, not, ◌&&◌, List, [], length, drop, replicate, ℤ, pos, negsuc, refl, sym, ap, ap₂, ◌∙◌, arith, length-drop, nat_abs}
 use Rattle.std.proofs.Math.Nat.{mul-le-mul}
 use Rattle.std.proofs.lemmas.List.{length-map, length-replicate}
 use Rattle.prv_cnf.specs.declared.formula.TheConstants.{MAX_VARS}

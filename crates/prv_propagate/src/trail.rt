@@ -1,6 +1,6 @@
 //! The literals that are true, in the order in which they became true, and beside them a table by
 //! literal, so that each question takes one step.
-ghost use Rattle.std.specs.Prelude.{◌≡◌, ℕ, ◌+◌, ◌*◌, ◌<◌, ◌≤◌, ◌++◌, ◌∷◌, [], take, length, count_by, true, false, IfOk, OnOk, IfSome};
+ghost use Rattle.std.specs.Prelude.{◌≡◌, ℕ, ◌+◌, ◌*◌, ◌<◌, ◌≤◌, ◌++◌, ◌∷◌, [], take, length, count_by, true, false, IfOk, OnOk, IfNone, IfSome};
 ghost use Rattle.prv_cnf.specs.Literals.{variable, has_literal};
 ghost use Rattle.prv_check.specs.Lines.{is_within};
 ghost use Rattle.prv_check.specs.Propagation.{is_false};
@@ -140,7 +140,9 @@ impl Trail {
 
     /// Where the literal's variable was last put among the steps, which says nothing once it is free.
     #[inline(always)]
-    pub fn last_position(&self, lit: Lit) -> u32 {
+    pub fn last_position(&self, lit: Lit) -> u32
+        ensures { (k : ℕ) → k < length self.now.steps → variable (step_at self.now.steps k).lit ≡ variable lit → result ≡ k }
+    {
         self.positions
             .get(lit.variable() as usize)
             .copied()
@@ -149,7 +151,9 @@ impl Trail {
 
     /// The place of the last decision.
     pub fn last_decision(&self) -> Option<usize>
-        ensures { IfSome result (λ p. (p < length self.now.steps) × IsDecision (step_at self.now.steps p)) }
+        ensures none { IfNone result ((p : ℕ) → p < length self.now.steps → IsDecision (step_at self.now.steps p) → ⊥) }
+        ensures some { IfSome result (λ p. (p < length self.now.steps) × IsDecision (step_at self.now.steps p)) }
+        ensures last { IfSome result (λ p. (q : ℕ) → q < length self.now.steps → IsDecision (step_at self.now.steps q) → q ≤ p) }
     {
         self.limits.last().copied()
     }

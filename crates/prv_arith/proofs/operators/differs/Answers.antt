@@ -1,6 +1,5 @@
-use Rattle.std.proofs.Common.{◌≡◌, ◌-◌, ◌*◌, length, sym, arith}
+use Rattle.std.proofs.Common.{◌≡◌, ◌*◌, length, sym, arith}
 use Rattle.prv_arith.proofs.OperatorLaws.{ready-less}
-use Rattle.prv_arith.specs.Orders.{flag}
 use Rattle.prv_arith.proofs.RunLaws.{flag-run}
 use Rattle.prv_arith.proofs.operators.differs.Goals as goal
 

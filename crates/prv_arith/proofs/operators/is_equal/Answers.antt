@@ -1,8 +1,7 @@
-use Rattle.std.proofs.Common.{◌≡◌, ◌-◌, ◌*◌, length, sym, arith}
+use Rattle.std.proofs.Common.{◌≡◌, ◌*◌, length, sym, arith}
 use Rattle.prv_arith.proofs.OperatorLaws.{ready-less}
 use Rattle.prv_cnf.specs.declared.formula.TheConstants.{MAX_VARS}
 use Rattle.prv_gate.proofs.Composing.{bit-more}
-use Rattle.prv_arith.specs.Orders.{flag}
 use Rattle.prv_arith.proofs.RunLaws.{opposite-flag-run}
 use Rattle.prv_arith.proofs.operators.is_equal.Goals as goal
 

@@ -1,4 +1,4 @@
-use Rattle.std.proofs.Common.{◌-◌, ap, sym, subst, ◌∙◌, List, arith}
+use Rattle.std.proofs.Common.{ap, sym, subst, ◌∙◌, List, arith}
 use Rattle.prv_gate.specs.declared.bit.Bit.{Bit}
 use Rattle.prv_gate.specs.declared.bit.Bit.TheVariants.{True}
 use Rattle.prv_cnf.specs.declared.formula.TheConstants.{MAX_VARS}

@@ -1,4 +1,4 @@
-use Rattle.std.proofs.Common.{◌≡◌, ◌-◌, ◌*◌, length, arith}
+use Rattle.std.proofs.Common.{◌≡◌, ◌*◌, length, arith}
 use Rattle.prv_arith.proofs.OperatorLaws.{ready-less}
 use Rattle.prv_arith.proofs.operators.plus.Goals as goal
 

@@ -1,4 +1,4 @@
-use Rattle.std.proofs.Common.{◌≡◌, ◌-◌, length, drop, ap, ◌∙◌, List, arith}
+use Rattle.std.proofs.Common.{◌≡◌, length, drop, ap, ◌∙◌, List, arith}
 use Rattle.prv_gate.specs.declared.bit.Bit.{Bit}
 use Rattle.prv_arith.specs.Shifts.{shifted_up}
 use Rattle.prv_arith.proofs.ListLaws.{bits-take, bits-drop}

@@ -1,4 +1,4 @@
-use Rattle.std.proofs.Common.{◌≡◌, ◌-◌, length, drop, ap, ◌∙◌, List, arith}
+use Rattle.std.proofs.Common.{◌≡◌, length, drop, ap, ◌∙◌, List, arith}
 use Rattle.prv_gate.specs.declared.bit.Bit.{Bit}
 use Rattle.prv_arith.specs.Lists.{top_bit}
 use Rattle.prv_arith.specs.Shifts.{shifted_down}

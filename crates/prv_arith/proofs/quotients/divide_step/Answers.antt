@@ -1,4 +1,4 @@
-use Rattle.std.proofs.Common.{◌-◌, length, arith}
+use Rattle.std.proofs.Common.{length, arith}
 use Rattle.prv_arith.proofs.StepLaws.{sum-ready, carry-inside, fit-ready, fits-inside, choice-ready, step-run, low-part, opposite-part}
 use Rattle.prv_arith.proofs.quotients.divide_step.Goals as goal
 

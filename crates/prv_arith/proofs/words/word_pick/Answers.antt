@@ -1,4 +1,4 @@
-use Rattle.std.proofs.Common.{◌≡◌, ◌-◌, length, arith}
+use Rattle.std.proofs.Common.{◌≡◌, length, arith}
 use Rattle.prv_arith.specs.Lists.{AllBits}
 use Rattle.prv_arith.specs.Costs.{pick_cost}
 use Rattle.prv_arith.specs.Words.{word_value, pick_bits}

@@ -1,0 +1,5 @@
+pub mod Bytes
+pub mod Crashes
+pub mod Faults
+pub mod Laws
+pub mod MemDisk

@@ -1,0 +1,9 @@
+use Rattle.std.proofs.Common.{sym, ◌∙◌}
+use Rattle.prv_sat.proofs.Marked.{marked_has}
+use Rattle.prv_sat.proofs.marks.Marks.has.Goals as goal
+
+pub returns : goal.returns
+returns c =
+    rw (← c.self.view_is)
+    (c.is_at.ensures
+    ∙ rw (c.as_slice.ensures.value, c.place.ensures) (sym (marked_has c.self.invariant c.args.lit)))
