@@ -1,0 +1,13 @@
+pub mod Shapes
+pub mod NodeLemmas
+pub mod TableLemmas
+pub mod AddLemmas
+pub mod PoolLemmas
+pub mod KeyLemmas
+pub mod FoldLemmas
+pub mod MakeLemmas
+pub mod FoldedLemmas
+pub mod FoldLaws
+pub mod ValueLemmas
+pub mod NumberLemmas
+pub mod CopyLemmas

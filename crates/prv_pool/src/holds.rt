@@ -1,0 +1,135 @@
+//! Whether a region holds an input, by one pass over nodes.
+ghost use Rattle.std.specs.Prelude.{◌≡◌, ℕ, ◌<◌, ◌≤◌, not, length, map, All, OnOk};
+ghost use Rattle.std.specs.List.{list_all};
+ghost use Rattle.prv_model.specs.Words.{is_zero};
+ghost use Rattle.prv_model.specs.Terms.{term_value, holds as holds_of};
+ghost use Rattle.prv_pool.specs.Tables.{term_at};
+ghost use Rattle.prv_pool.specs.Values.{node_value as node_value_of, value_at as value_at_of};
+
+use crate::node::Node;
+use crate::pool::Pool;
+use crate::region::Cond;
+use prv_model::{Input, total};
+use sqlite_items::at;
+use std::alloc::{AllocError, Global};
+use std::marker::Model;
+
+/// Room for one value of each node of a pool. It is seen as the count of values.
+#[derive(Debug, Drop)]
+pub struct Scratch {
+    values: Vec<i32>,
+}
+
+impl Model for Scratch {
+    ghost use Rattle.std.specs.Prelude.{ℕ, length};
+    ghost use Rattle.std.specs.Coded.{coded_ℕ};
+
+    ghost Value = { ℕ };
+
+    ghost coded = { coded_ℕ };
+
+    ghost view = { λ s. length s.values.items };
+}
+
+impl Scratch {
+    /// Room for no values.
+    pub fn new(alloc: Global) -> Scratch
+        ensures { result ≡ 0 }
+    {
+        Scratch {
+            values: Vec::new(alloc),
+        }
+    }
+}
+
+impl Pool {
+    /// Makes room for the values of this pool's nodes. Where memory is short, the room stays as it was.
+    pub fn reserve_scratch(&self, scratch: &mut Scratch) -> Result<(), AllocError>
+        ensures reserved { OnOk result (length self.now.terms ≤ scratch.new) }
+        ensures kept { scratch.old ≤ scratch.new }
+    {
+        let count = self.len() as usize;
+        if scratch.values.len() < count {
+            scratch.values.resize(count, 0)?;
+        }
+        Ok(())
+    }
+
+    /// Whether each node of the condition is nonzero on the input: whether its region holds the input.
+    ///
+    /// It goes once over the nodes up to the condition's greatest, keeps their values in the scratch, and
+    /// takes no memory.
+    pub fn holds(&self, cond: &Cond, input: &Input, scratch: &mut Scratch) -> bool
+        requires roots { All (λ n. n < length self.now.terms) cond.now }
+        requires reserved { length self.now.terms ≤ scratch.old }
+        ensures value { result ≡ holds_of (map (term_at self.now.terms) cond.now) input.now }
+        ensures room { scratch.new ≡ scratch.old }
+    {
+        let roots = cond.roots();
+        let count = self.end_of(roots);
+        evaluate(self, count, input.as_slice(), &mut scratch.values);
+        are_nonzero(roots, scratch.values.as_slice())
+    }
+
+    /// The number behind the greatest of some nodes, and 0 where there is none.
+    fn end_of(&self, nodes: &[u32]) -> u32
+        requires { All (λ n. n < length self.now.terms) nodes.now }
+        ensures within { result ≤ length self.now.terms }
+        ensures above { All (λ n. n < result) nodes.now }
+    {
+        let count = self.len();
+        let mut end = 0;
+        for n in nodes {
+            prove!(*n < count);
+            if end <= *n {
+                end = *n + 1;
+            }
+        }
+        end
+    }
+}
+
+/// Writes the values of the first nodes of a pool.
+fn evaluate(pool: &Pool, count: u32, words: &[i32], values: &mut Vec<i32>)
+    requires nodes { count ≤ length pool.now.terms }
+    requires room { count ≤ length values.old.items }
+    ensures length { length values.new.items ≡ length values.old.items }
+    ensures values { (k : ℕ) → k < count → value_at_of values.new.items k ≡ term_value (term_at pool.now.terms k) words.now }
+{
+    for n in 0..count {
+        let value = node_value(pool.node(n), words, values.as_slice());
+        values[n as usize] = value;
+    }
+}
+
+/// The value of a node on an input's words, over the values of the nodes before it.
+fn node_value(node: Node, words: &[i32], values: &[i32]) -> i32
+    ensures { result ≡ node_value_of values.now words.now node }
+{
+    match node {
+        Node::Param(k) => value_at(words, k as u32),
+        Node::Num(n) => n,
+        Node::Op(op, a, b) => total(op, value_at(values, a), value_at(values, b)),
+        Node::Pick(test, a, b) => {
+            if value_at(values, test) == 0 {
+                value_at(values, b)
+            } else {
+                value_at(values, a)
+            }
+        }
+    }
+}
+
+/// The value at a number, and 0 past the end.
+fn value_at(values: &[i32], n: u32) -> i32
+    ensures { result ≡ value_at_of values.now n }
+{
+    at(values, n as usize).copied().unwrap_or(0)
+}
+
+/// Whether the value of each node is nonzero.
+fn are_nonzero(nodes: &[u32], values: &[i32]) -> bool
+    ensures { result ≡ list_all (λ n. not (is_zero (value_at_of values.now n))) nodes.now }
+{
+    nodes.iter().all(|n| value_at(values, *n) != 0)
+}

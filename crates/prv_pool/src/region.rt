@@ -1,0 +1,128 @@
+ghost use Rattle.std.specs.Prelude.{◌≡◌, ℕ, ◌<◌, List, length, map, All, IfOk};
+ghost use Rattle.std.specs.Arc.{arc_value};
+ghost use Rattle.prv_pool.specs.Tables.{Table, AreAt, term_at};
+
+use crate::pool::Pool;
+use std::alloc::AllocError;
+use std::marker::Model;
+use std::sync::Arc;
+
+/// A condition: nodes of a pool, each of which is to be nonzero. It is shared, not copied.
+#[derive(Drop)]
+pub struct Cond {
+    roots: Arc<Vec<u32>>,
+}
+
+impl Model for Cond {
+    ghost use Rattle.std.specs.Prelude.{ℕ, List};
+    ghost use Rattle.std.specs.Coded.{coded_list, coded_ℕ};
+    ghost use Rattle.std.specs.Arc.{arc_value};
+
+    ghost Value = { List ℕ };
+
+    ghost coded = { coded_list coded_ℕ };
+
+    ghost view = { λ c. (arc_value c.roots).items };
+}
+
+impl Cond {
+    /// The condition of these nodes.
+    pub fn new(roots: Arc<Vec<u32>>) -> Cond
+        ensures { result ≡ (arc_value roots).items }
+    {
+        Cond { roots }
+    }
+
+    /// The numbers of the nodes.
+    pub fn roots(&self) -> &[u32]
+        ensures { result.now ≡ self.now }
+    {
+        self.roots.as_slice()
+    }
+
+    fn share(&self) -> Result<Cond, AllocError>
+        ensures { IfOk result (λ c. c ≡ self.now) }
+    {
+        Ok(Cond {
+            roots: Arc::try_clone(&self.roots)?,
+        })
+    }
+}
+
+/// A region: terms of a pool, all of which are nonzero on the inputs that it holds. It is seen as the
+/// list of the terms.
+#[derive(Drop)]
+pub struct Region {
+    pool: Arc<Pool>,
+    cond: Cond,
+}
+
+impl Model for Region {
+    ghost use Rattle.std.specs.Prelude.{ℕ, ◌<◌, List, length, map, All};
+    ghost use Rattle.std.specs.Coded.{coded_list};
+    ghost use Rattle.std.specs.Arc.{arc_value};
+    ghost use Rattle.prv_model.specs.declared.term.Term.{Term};
+    ghost use Rattle.prv_pool.specs.Tables.{term_at, term_code};
+
+    ghost Value = { List Term };
+
+    ghost coded = { coded_list term_code };
+
+    ghost view = { λ r. map (term_at (arc_value r.pool).terms) r.cond };
+
+    ghost invariant = { λ r. All (λ n. n < length (arc_value r.pool).terms) r.cond };
+}
+
+/// A region's pool, and the numbers of its terms in it.
+#[derive(Drop)]
+pub struct Parts<'a> {
+    pub pool: &'a Pool,
+    pub roots: &'a [u32],
+}
+
+impl Region {
+    /// The region of a condition on a pool.
+    pub fn new(pool: Arc<Pool>, cond: Cond) -> Region
+        requires { All (λ n. n < length (arc_value pool).terms) cond }
+        ensures { result ≡ map (term_at (arc_value pool).terms) cond }
+    {
+        Region { pool, cond }
+    }
+
+    /// The pool that the terms stand in.
+    pub fn pool(&self) -> &Pool
+        ensures { (numbers : List ℕ) × AreAt self.now result.now numbers }
+    {
+        self.pool.keeps_a_table();
+        &self.pool
+    }
+
+    /// The numbers of the terms in the pool: equal terms have equal numbers.
+    pub fn roots(&self) -> &[u32]
+        ensures { (table : Table) × AreAt self.now table result.now }
+    {
+        self.pool.keeps_a_table();
+        self.cond.roots()
+    }
+
+    /// The pool that the terms stand in, and their numbers there.
+    pub fn parts(&self) -> Parts<'_>
+        ensures value { self.now ≡ map (term_at result.pool.now.terms) result.roots.now }
+        ensures within { All (λ n. n < length result.pool.now.terms) result.roots.now }
+    {
+        Parts {
+            pool: &self.pool,
+            roots: self.cond.roots(),
+        }
+    }
+
+    /// The same region once more, with its pool and its nodes shared.
+    pub fn share(&self) -> Result<Region, AllocError>
+        ensures { IfOk result (λ r. r ≡ self.now) }
+    {
+        Ok(Region {
+            pool: Arc::try_clone(&self.pool)?,
+            cond: self.cond.share()?,
+        })
+    }
+}

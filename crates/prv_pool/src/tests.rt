@@ -1,0 +1,402 @@
+ghost use Rattle.std.specs.Prelude.{◌<◌, length, All, IfOk};
+
+use crate::{Cond, Node, Pool, PoolError, Region, Scratch, same_region};
+use prv_model::{Input, TermOp};
+use std::process::Abort;
+use std::sync::Arc;
+use std::test::Fail;
+
+/// Operands of the rows: parameters, numbers, and comparisons of the parameters.
+#[derive(Clone, Copy)]
+enum Operand {
+    A,
+    B,
+    Num(i32),
+    Less,
+    AtLeast,
+    Equal,
+    Unequal,
+}
+
+/// What an operator gives: this operand, or the operator on both in this or the other order.
+#[derive(Clone, Copy)]
+enum Gives {
+    One(Operand),
+    Itself,
+    Exchanged,
+}
+
+/// Each rule with operands that it changes, in both orders, and with operands that it just misses.
+const FOLDINGS: [(TermOp, Operand, Operand, Gives); 63] = [
+    (
+        TermOp::Add,
+        Operand::Num(2147483647),
+        Operand::Num(1),
+        Gives::One(Operand::Num(-2147483648)),
+    ),
+    (
+        TermOp::Div,
+        Operand::Num(-2147483648),
+        Operand::Num(-1),
+        Gives::One(Operand::Num(-2147483648)),
+    ),
+    (
+        TermOp::Div,
+        Operand::Num(7),
+        Operand::Num(0),
+        Gives::One(Operand::Num(0)),
+    ),
+    (
+        TermOp::Rem,
+        Operand::Num(7),
+        Operand::Num(0),
+        Gives::One(Operand::Num(0)),
+    ),
+    (TermOp::Mul, Operand::Num(2), Operand::A, Gives::Exchanged),
+    (TermOp::Mul, Operand::A, Operand::Num(2), Gives::Itself),
+    (TermOp::Eq, Operand::B, Operand::A, Gives::Exchanged),
+    (TermOp::Sub, Operand::B, Operand::A, Gives::Itself),
+    (TermOp::Lt, Operand::B, Operand::A, Gives::Itself),
+    (
+        TermOp::Add,
+        Operand::A,
+        Operand::Num(0),
+        Gives::One(Operand::A),
+    ),
+    (
+        TermOp::Add,
+        Operand::Num(0),
+        Operand::A,
+        Gives::One(Operand::A),
+    ),
+    (TermOp::Add, Operand::A, Operand::Num(1), Gives::Itself),
+    (
+        TermOp::Sub,
+        Operand::A,
+        Operand::Num(0),
+        Gives::One(Operand::A),
+    ),
+    (TermOp::Sub, Operand::Num(0), Operand::A, Gives::Itself),
+    (
+        TermOp::Mul,
+        Operand::A,
+        Operand::Num(1),
+        Gives::One(Operand::A),
+    ),
+    (
+        TermOp::Mul,
+        Operand::A,
+        Operand::Num(0),
+        Gives::One(Operand::Num(0)),
+    ),
+    (
+        TermOp::Mul,
+        Operand::Num(0),
+        Operand::A,
+        Gives::One(Operand::Num(0)),
+    ),
+    (TermOp::Mul, Operand::A, Operand::Num(-1), Gives::Itself),
+    (
+        TermOp::Div,
+        Operand::A,
+        Operand::Num(1),
+        Gives::One(Operand::A),
+    ),
+    (TermOp::Div, Operand::Num(1), Operand::A, Gives::Itself),
+    (TermOp::Div, Operand::A, Operand::Num(0), Gives::Itself),
+    (
+        TermOp::Rem,
+        Operand::A,
+        Operand::Num(1),
+        Gives::One(Operand::Num(0)),
+    ),
+    (TermOp::Rem, Operand::A, Operand::Num(-1), Gives::Itself),
+    (
+        TermOp::Shl,
+        Operand::A,
+        Operand::Num(32),
+        Gives::One(Operand::A),
+    ),
+    (TermOp::Shl, Operand::A, Operand::Num(31), Gives::Itself),
+    (
+        TermOp::Shr,
+        Operand::A,
+        Operand::Num(-32),
+        Gives::One(Operand::A),
+    ),
+    (TermOp::Shr, Operand::Num(0), Operand::A, Gives::Itself),
+    (
+        TermOp::And,
+        Operand::A,
+        Operand::Num(-1),
+        Gives::One(Operand::A),
+    ),
+    (
+        TermOp::And,
+        Operand::Num(-1),
+        Operand::A,
+        Gives::One(Operand::A),
+    ),
+    (
+        TermOp::And,
+        Operand::A,
+        Operand::Num(0),
+        Gives::One(Operand::Num(0)),
+    ),
+    (
+        TermOp::Or,
+        Operand::A,
+        Operand::Num(0),
+        Gives::One(Operand::A),
+    ),
+    (
+        TermOp::Or,
+        Operand::A,
+        Operand::Num(-1),
+        Gives::One(Operand::Num(-1)),
+    ),
+    (
+        TermOp::Xor,
+        Operand::A,
+        Operand::Num(0),
+        Gives::One(Operand::A),
+    ),
+    (TermOp::Xor, Operand::A, Operand::Num(-1), Gives::Itself),
+    (
+        TermOp::Sub,
+        Operand::A,
+        Operand::A,
+        Gives::One(Operand::Num(0)),
+    ),
+    (
+        TermOp::Xor,
+        Operand::A,
+        Operand::A,
+        Gives::One(Operand::Num(0)),
+    ),
+    (
+        TermOp::Lt,
+        Operand::A,
+        Operand::A,
+        Gives::One(Operand::Num(0)),
+    ),
+    (
+        TermOp::Ne,
+        Operand::A,
+        Operand::A,
+        Gives::One(Operand::Num(0)),
+    ),
+    (
+        TermOp::Eq,
+        Operand::A,
+        Operand::A,
+        Gives::One(Operand::Num(1)),
+    ),
+    (
+        TermOp::Le,
+        Operand::A,
+        Operand::A,
+        Gives::One(Operand::Num(1)),
+    ),
+    (TermOp::And, Operand::A, Operand::A, Gives::One(Operand::A)),
+    (TermOp::Or, Operand::A, Operand::A, Gives::One(Operand::A)),
+    (TermOp::Add, Operand::A, Operand::A, Gives::Itself),
+    (TermOp::Div, Operand::A, Operand::A, Gives::Itself),
+    (
+        TermOp::And,
+        Operand::Less,
+        Operand::Num(1),
+        Gives::One(Operand::Less),
+    ),
+    (
+        TermOp::And,
+        Operand::Num(1),
+        Operand::Less,
+        Gives::One(Operand::Less),
+    ),
+    (TermOp::And, Operand::A, Operand::Num(1), Gives::Itself),
+    (
+        TermOp::Or,
+        Operand::Less,
+        Operand::Num(1),
+        Gives::One(Operand::Num(1)),
+    ),
+    (TermOp::Or, Operand::A, Operand::Num(1), Gives::Itself),
+    (
+        TermOp::And,
+        Operand::Less,
+        Operand::AtLeast,
+        Gives::One(Operand::Num(0)),
+    ),
+    (
+        TermOp::And,
+        Operand::AtLeast,
+        Operand::Less,
+        Gives::One(Operand::Num(0)),
+    ),
+    (
+        TermOp::Or,
+        Operand::Less,
+        Operand::AtLeast,
+        Gives::One(Operand::Num(1)),
+    ),
+    (
+        TermOp::Or,
+        Operand::Unequal,
+        Operand::Equal,
+        Gives::One(Operand::Num(1)),
+    ),
+    (TermOp::And, Operand::Less, Operand::Equal, Gives::Itself),
+    (
+        TermOp::Eq,
+        Operand::Less,
+        Operand::Num(0),
+        Gives::One(Operand::AtLeast),
+    ),
+    (
+        TermOp::Eq,
+        Operand::Num(0),
+        Operand::AtLeast,
+        Gives::One(Operand::Less),
+    ),
+    (
+        TermOp::Eq,
+        Operand::Equal,
+        Operand::Num(0),
+        Gives::One(Operand::Unequal),
+    ),
+    (TermOp::Eq, Operand::A, Operand::Num(0), Gives::Itself),
+    (TermOp::Eq, Operand::Less, Operand::Num(1), Gives::Itself),
+    (
+        TermOp::Ne,
+        Operand::Less,
+        Operand::Num(0),
+        Gives::One(Operand::Less),
+    ),
+    (
+        TermOp::Ne,
+        Operand::Num(0),
+        Operand::Unequal,
+        Gives::One(Operand::Unequal),
+    ),
+    (TermOp::Ne, Operand::A, Operand::Num(0), Gives::Itself),
+    (TermOp::Ne, Operand::Less, Operand::Num(1), Gives::Itself),
+];
+
+fn op(rt: &impl Abort, pool: &mut Pool, op: TermOp, a: u32, b: u32) -> Result<u32, PoolError> {
+    let count = pool.len();
+    assert!(rt; a < count && b < count);
+    pool.op(op, a, b)
+}
+
+fn node_of(rt: &impl Abort, pool: &mut Pool, operand: Operand) -> Result<u32, PoolError> {
+    let a = pool.param(0)?;
+    let b = pool.param(1)?;
+    match operand {
+        Operand::A => Ok(a),
+        Operand::B => Ok(b),
+        Operand::Num(n) => pool.num(n),
+        Operand::Less => op(rt, pool, TermOp::Lt, a, b),
+        Operand::AtLeast => op(rt, pool, TermOp::Le, b, a),
+        Operand::Equal => op(rt, pool, TermOp::Eq, a, b),
+        Operand::Unequal => op(rt, pool, TermOp::Ne, a, b),
+    }
+}
+
+fn node(rt: &impl Abort, pool: &Pool, n: u32) -> Node {
+    let count = pool.len();
+    assert!(rt; n < count);
+    pool.node(n)
+}
+
+/// Asserts what an operator on two operands gives.
+fn check_row(
+    rt: &impl Abort,
+    pool: &mut Pool,
+    (of, left, right, gives): (TermOp, Operand, Operand, Gives),
+) -> Result<(), PoolError> {
+    let a = node_of(rt, pool, left)?;
+    let b = node_of(rt, pool, right)?;
+    let made = op(rt, pool, of, a, b)?;
+    match gives {
+        Gives::One(one) => {
+            let wanted = node_of(rt, pool, one)?;
+            assert_eq!(rt; made, wanted);
+        }
+        Gives::Itself => assert!(rt; node(rt, pool, made) == Node::Op(of, a, b)),
+        Gives::Exchanged => assert!(rt; node(rt, pool, made) == Node::Op(of, b, a)),
+    }
+    Ok(())
+}
+
+#[test]
+fn operators_fold_by_the_first_rule_that_applies(rt: HostRuntime) -> Result<(), Fail> {
+    let mut pool = Pool::new(rt.alloc(), 100);
+    for row in FOLDINGS {
+        check_row(&rt, &mut pool, row)?;
+    }
+    Ok(())
+}
+
+/// The node of `a < 5`, which a number may stand before.
+fn less_than_five(rt: &impl Abort, pool: &mut Pool, number_first: bool) -> Result<u32, PoolError>
+    ensures { IfOk result (λ n. n < length pool.new.terms) }
+{
+    if number_first {
+        pool.num(5)?;
+    }
+    let a = pool.param(0)?;
+    let n = pool.num(5)?;
+    let less = op(rt, pool, TermOp::Lt, a, n)?;
+    let count = pool.len();
+    assert!(rt; less < count);
+    Ok(less)
+}
+
+/// The region of `a < 5`, in a pool in which the number stands before the parameter or behind it.
+fn below_five(rt: &(impl AllocGlobal + Abort), number_first: bool) -> Result<Region, Fail> {
+    let mut pool = Pool::new(rt.alloc(), 100);
+    let less = less_than_five(rt, &mut pool, number_first)?;
+    let roots = Arc::new(rt.alloc(), vec![in rt.alloc(); less]?)?;
+    Ok(Region::new(Arc::new(rt.alloc(), pool)?, Cond::new(roots)))
+}
+
+/// Regions are one by their terms, not their numbers.
+#[test]
+fn regions_are_lists_of_terms(rt: HostRuntime) -> Result<(), Fail> {
+    let region = below_five(&rt, true)?;
+    let other = below_five(&rt, false)?;
+    assert!(rt; same_region(rt.alloc(), &region, &other)?);
+    Ok(())
+}
+
+/// Whether a condition of a pool holds on the input of one word.
+fn holds_on(rt: &impl AllocGlobal, pool: &Pool, cond: &Cond, word: i32) -> Result<bool, Fail>
+    requires { All (λ n. n < length pool.now.terms) cond.now }
+{
+    let mut scratch = Scratch::new(rt.alloc());
+    pool.reserve_scratch(&mut scratch)?;
+    let mut input = Input::new(rt.alloc());
+    input.push(word)?;
+    Ok(pool.holds(cond, &input, &mut scratch))
+}
+
+/// A copy in a new pool holds what its region holds: `a < 5` on 4 and not on 5.
+#[test]
+fn a_copy_holds_what_its_region_holds(rt: HostRuntime) -> Result<(), Fail> {
+    let region = below_five(&rt, true)?;
+    let mut pool = Pool::new(rt.alloc(), 4);
+    let cond = pool.copy_region(rt.alloc(), &region)?;
+    assert!(rt; holds_on(&rt, &pool, &cond, 4)?);
+    assert!(rt; !holds_on(&rt, &pool, &cond, 5)?);
+    Ok(())
+}
+
+/// A pool of two nodes is too small for a copy of three.
+#[test]
+fn a_copy_may_be_too_wide(rt: HostRuntime) -> Result<(), Fail> {
+    let region = below_five(&rt, true)?;
+    let mut pool = Pool::new(rt.alloc(), 2);
+    assert!(rt; matches!(pool.copy_region(rt.alloc(), &region), Err(PoolError::Wide)));
+    Ok(())
+}
