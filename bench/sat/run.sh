@@ -39,7 +39,7 @@ git -C "$work/copy" init -q
 program=$work/copy/crates/sat_bench/out/sat_bench
 
 for formula in "$work"/formulas/*.cnf; do
-    sed -n -e 's/^p cnf \([0-9]*\) .*/\1/p' -e '/^p/!p' "$formula" > "$work/input"
+    sed -e 's/^p cnf \([0-9]*\) .*/\1/' "$formula" > "$work/input"
     : > "$work/times"
     round=0
     while [ "$round" -lt "$rounds" ]; do
