@@ -43,12 +43,18 @@ for formula in "$work"/formulas/*.cnf; do
     : > "$work/times"
     round=0
     while [ "$round" -lt "$rounds" ]; do
-        minisat "$formula" 2> /dev/null | awk '/^CPU time/ { printf "peer %d\n", $4 * 1000 }' >> "$work/times"
-        "$program" < "$work/input" | awk '{ for (i = 1; i < NF; i++) if ($(i + 1) ~ /^ms/) print "ours", $i }' >> "$work/times"
+        minisat "$formula" 2> /dev/null | awk '
+            /^CPU time/ { printf "peer %d\n", $4 * 1000 }
+            /^UNSAT/ { print "verdict refuted" }
+            /^SAT/ { print "verdict values" }' >> "$work/times"
+        "$program" < "$work/input" | awk '{
+            print "verdict", $1
+            for (i = 1; i < NF; i++) if ($(i + 1) ~ /^ms/) print "ours", $i }' >> "$work/times"
         round=$((round + 1))
     done
     awk -v name="$(basename "$formula" .cnf)" '
+        $1 == "verdict" { if (verdict != "" && verdict != $2) differ = "  THE VERDICTS DIFFER"; verdict = $2; next }
         !($1 in least) || $2 < least[$1] { least[$1] = $2 }
-        END { printf "%-20s %8d %8d  %.2f\n", name, least["ours"], least["peer"], (least["ours"] + 1) / (least["peer"] + 1) }
+        END { printf "%-20s %8d %8d  %.2f  %s%s\n", name, least["ours"], least["peer"], (least["ours"] + 1) / (least["peer"] + 1), verdict, differ }
     ' "$work/times"
 done
