@@ -1,0 +1,4 @@
+pub mod Symbols
+pub mod Named
+pub mod Calls
+pub mod Walks
