@@ -27,30 +27,8 @@ use Rattle.prv_model.proofs.TermLemmas.{term_value-Num}
 use Rattle.prv_model.proofs.WordLaws.{term_has_a_word}
 use Rattle.prv_pool.specs.Folding.{folded, folded_pick, negation, truth as truth_of}
 use Rattle.prv_pool.proofs.FoldLaws.{folded-value, pick-value, negation-value, truth-value, folded-term, pick-term, negation-term, truth-term}
+use Rattle.prv_sym.specs.Judgements.{has_value, Judged, AreOver, AreTerms, state_of, IsSaid}
 use Rattle.prv_sym.specs.Symbols.{Symbol, symbol, node_symbol, unary_term, binary_term, binary_safe, both_safe, pick_safe}
-
--- whether an evaluation has a value
-abbrev pub has_value : Option ℤ → Bool
-has_value None = false
-has_value (Some n) = true
-
--- the symbol says on the input y what the evaluation gives
-pub record Judged (y : List ℤ) (s : Symbol) (v : Option ℤ) : Type 0 where
-  pub safe : term_value s.safe y ≡ flag (has_value v)
-  pub term : (n : ℤ) → v ≡ Some n → term_value s.term y ≡ n
-
--- both terms of a symbol are terms over n parameters
-pub record AreOver (n : ℕ) (s : Symbol) : Type 0 where
-  pub term : IsTerm n s.term
-  pub safe : IsTerm n s.safe
-
--- each variable has a term over n parameters
-abbrev pub AreTerms : ℕ → List Term → Type 0
-AreTerms n env = (v : ℕ) → IsTerm n (unwrap_or (slice_get env v) (Num (pos 0)))
-
--- the state that the variables' terms have on an input
-abbrev pub state_of : List Term → List ℤ → List ℤ
-state_of env y = map (λ t. term_value t y) env
 
 pub num-term : (n : ℕ) (w : ℤ) → is_word w ≡ true → IsTerm n (Num w)
 num-term n w h = let P : Term → Type 0 = λ t. IsTerm n t in subst P (rolls-Num w) (fold-roll-Term Bool (node_is_term n) (Term-F.Num w) ∙ h)
@@ -379,11 +357,6 @@ and-left false q e = e
 and-right : (p q : Bool) → (p && q) ≡ true → q ≡ true
 and-right true q e = e
 and-right false q e = cc
-
--- an expression over the variables has a symbol over n parameters, which says what its evaluation gives
-pub record IsSaid (n : ℕ) (y : List ℤ) (env : List Term) (e : Expr) : Type 0 where
-  pub over : AreOver n (symbol e env)
-  pub judged : Judged y (symbol e env) (value e (state_of env y))
 
 abbrev Says : ℕ → List ℤ → List Term → Expr → Type 0
 Says n y env e = expr_over (length env) e ≡ true → IsSaid n y env e

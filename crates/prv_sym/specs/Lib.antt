@@ -1,4 +1,5 @@
 pub mod Symbols
+pub mod Judgements
 pub mod Named
 pub mod Calls
 pub mod Walks

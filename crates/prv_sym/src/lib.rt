@@ -6,6 +6,7 @@
 
 mod evaluations;
 mod expressions;
+mod laws;
 mod nodes;
 mod operators;
 mod statements;
@@ -14,4 +15,5 @@ mod tests;
 
 pub use evaluations::{Symbols, terms};
 pub use expressions::symbol;
+pub use laws::symbols_say_what_is_evaluated;
 pub use nodes::{Nodes, Slot};
