@@ -1,0 +1,6 @@
+mod Kept
+mod Moments
+mod RecordsNext
+mod RecordsRead
+mod RecordsWritten
+mod Settled
