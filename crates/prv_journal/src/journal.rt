@@ -77,6 +77,7 @@ impl<D: Disk> Journal<D> {
 
         ensures number { IfOk result (λ number. number ≡ self.old.count) }
         ensures count { OnOk result (self.new.count ≡ self.old.count + 1) }
+        ensures as_many { OnErr result (self.new.count ≡ self.old.count) }
         ensures added { OnOk result (D.Tells → Has (followed_by payload.now (records (D.seen self.old.disk))) (D.seen self.new.disk)) }
         ensures lasting { OnOk result (D.Tells → (image : List ℕ) → D.may_leave self.new.disk image → Has (followed_by payload.now (records (D.seen self.old.disk))) image) }
         ensures four_calls { OnOk result (D.Tells → D.moment self.new.disk ≡ D.moment self.old.disk + 4) }

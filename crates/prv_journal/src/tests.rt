@@ -68,7 +68,8 @@ fn a_crash_after_each_call_leaves_the_records_before_or_with(rt: HostRuntime) ->
         (4, [WITH; 4]),
     ] {
         let disk = MemDisk::new(Vec::new(alloc), vec![in alloc; 10 + calls]?);
-        let (mut journal, _) = Journal::load(alloc, disk).map_err(|refused| refused.0)?;
+        let (mut journal, payloads) = Journal::load(alloc, disk).map_err(|refused| refused.0)?;
+        assert_eq!(rt; payloads.len(), 0);
         assert_eq!(rt; journal.append(b"one"), Ok(0));
         let answer = journal.append(b"two");
         assert_eq!(rt;

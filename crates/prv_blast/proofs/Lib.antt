@@ -1,0 +1,11 @@
+pub mod Growing
+pub mod Words
+pub mod Meaning
+pub mod Standing
+pub mod Climbing
+pub mod Orders
+pub mod Costs
+pub mod Encoders
+pub mod Bits
+pub mod Roots
+pub mod Conditions
