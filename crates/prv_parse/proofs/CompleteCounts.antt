@@ -1,4 +1,4 @@
--- How operators are counted over texts in a row, and which tier a symbol is of.
+-- How operators are counted over texts in a row, and which precedence a symbol is of.
 use Rattle.std.proofs.Common.{◌≡◌, ℕ, ◌<◌, ◌≤◌, Bool, true, false, List, [], ◌∷◌, ◌++◌, refl, ap, sym, ◌∙◌, arith, nat_le, ◌&&◌, ◌||◌, not, Some, None, leb-false, ne_eqb, eq-eqb, if◌then◌else◌, Option}
 use Rattle.prv_lex.specs.declared.token.Tok.TheVariants as tok
 use Rattle.prv_lex.specs.declared.token.Sym.{Sym}
@@ -7,9 +7,9 @@ use Rattle.prv_model.specs.declared.op.UnOp.{UnOp}
 use Rattle.prv_model.specs.declared.op.BinOp.{BinOp}
 use Rattle.prv_model.specs.declared.op.BinOp.TheVariants as bin
 use Rattle.prv_parse.specs.Texts.{Laid, operators, IsCounted, more_by}
-use Rattle.prv_parse.specs.Operators.{is_operator, is_operation, unary_of, binary_of, tier}
+use Rattle.prv_parse.specs.Operators.{is_operator, is_operation, unary_of, binary_of, precedence}
 use Rattle.prv_parse.specs.Refusals.{is_deep, is_within}
-use Rattle.prv_parse.specs.Reader.{of_tier, operator_of}
+use Rattle.prv_parse.specs.Reader.{of_precedence, operator_of}
 
 -- the count over two texts in a row
 pub counted-append : (n : ℕ) (a b : List Laid) → IsCounted n (a ++ b) → IsCounted n a × IsCounted (operators n a) b
@@ -64,30 +64,30 @@ binary-operator s op e = ap (is_operation s (unary_of s)) e ∙ operation-binary
 pub unary-operator : (s : Sym) (op : UnOp) → unary_of s ≡ Some op → is_operator (tok.Sym s) ≡ true
 unary-operator s op e = ap (λ u. is_operation s u (binary_of s)) e ∙ operation-unary s op (binary_of s)
 
--- there are ten tiers
-pub tier-le : (op : BinOp) → tier op ≤ 10
-tier-le bin.Mul = omega arith
-tier-le bin.Add = omega arith
-tier-le bin.Sub = omega arith
-tier-le bin.Shl = omega arith
-tier-le bin.Shr = omega arith
-tier-le bin.Lt = omega arith
-tier-le bin.Le = omega arith
-tier-le bin.Gt = omega arith
-tier-le bin.Ge = omega arith
-tier-le bin.Eq = omega arith
-tier-le bin.Ne = omega arith
-tier-le bin.And = omega arith
-tier-le bin.Xor = omega arith
-tier-le bin.Or = omega arith
-tier-le bin.AndAlso = omega arith
-tier-le bin.OrElse = omega arith
-tier-le _ = omega arith
+-- there are ten precedences
+pub precedence-le : (op : BinOp) → precedence op ≤ 10
+precedence-le bin.Mul = omega arith
+precedence-le bin.Add = omega arith
+precedence-le bin.Sub = omega arith
+precedence-le bin.Shl = omega arith
+precedence-le bin.Shr = omega arith
+precedence-le bin.Lt = omega arith
+precedence-le bin.Le = omega arith
+precedence-le bin.Gt = omega arith
+precedence-le bin.Ge = omega arith
+precedence-le bin.Eq = omega arith
+precedence-le bin.Ne = omega arith
+precedence-le bin.And = omega arith
+precedence-le bin.Xor = omega arith
+precedence-le bin.Or = omega arith
+precedence-le bin.AndAlso = omega arith
+precedence-le bin.OrElse = omega arith
+precedence-le _ = omega arith
 
--- an operator of a tier is one there
-pub of_its_tier : (k : ℕ) (s : Sym) (op : BinOp) → binary_of s ≡ Some op → tier op ≡ k → operator_of k (tok.Sym s) ≡ Some op
-of_its_tier k s op e at = ap (of_tier k) e ∙ ap (λ b. if b then Some op else None) (eq-eqb (tier op) k at)
+-- an operator of a precedence is one there
+pub of_its_precedence : (k : ℕ) (s : Sym) (op : BinOp) → binary_of s ≡ Some op → precedence op ≡ k → operator_of k (tok.Sym s) ≡ Some op
+of_its_precedence k s op e at = ap (of_precedence k) e ∙ ap (λ b. if b then Some op else None) (eq-eqb (precedence op) k at)
 
 -- and at no other one
-pub of_no_other : (k j : ℕ) (s : Sym) (op : BinOp) → binary_of s ≡ Some op → tier op ≡ k → j < k → operator_of j (tok.Sym s) ≡ None
-of_no_other k j s op e at below = ap (of_tier j) e ∙ ap (λ b. if b then Some op else None) (ne_eqb (tier op) j (λ same. omega arith))
+pub of_no_other : (k j : ℕ) (s : Sym) (op : BinOp) → binary_of s ≡ Some op → precedence op ≡ k → j < k → operator_of j (tok.Sym s) ≡ None
+of_no_other k j s op e at below = ap (of_precedence j) e ∙ ap (λ b. if b then Some op else None) (ne_eqb (precedence op) j (λ same. omega arith))

@@ -5,20 +5,20 @@ use Rattle.prv_lex.specs.declared.token.Token.{Token}
 use Rattle.prv_lex.specs.declared.token.Sym.{Sym}
 use Rattle.prv_lex.specs.declared.token.Sym.TheVariants as sy
 use Rattle.prv_model.specs.declared.op.BinOp.{BinOp}
-use Rattle.prv_parse.specs.Operators.{binary_of, tier}
+use Rattle.prv_parse.specs.Operators.{binary_of, precedence}
 use Rattle.prv_parse.specs.Texts.{Laid, lay, tokens_of, operators}
 use Rattle.prv_parse.specs.Grammar.{IsExpr, number, name, parens, unary, tighter, binary, choice}
-use Rattle.prv_parse.specs.Reader.{Done, bind, Read, readers, tier_of, choice_behind, expect, is_colon, chosen}
+use Rattle.prv_parse.specs.Reader.{Done, bind, Read, readers, precedence_of, choice_behind, expect, is_colon, chosen}
 use Rattle.prv_parse.specs.declared.tree.ExprTree.{ExprTree}
 use Rattle.prv_parse.specs.declared.tree.ExprTree.TheVariants as expr
 use Rattle.prv_parse.proofs.Shown.{shown}
 use Rattle.prv_parse.proofs.CompleteShown.{in_row, follows_last, past_plain, calm, operates}
-use Rattle.prv_parse.proofs.CompleteCounts.{counted-append, operators-append, few, tier-le}
+use Rattle.prv_parse.proofs.CompleteCounts.{counted-append, operators-append, few, precedence-le}
 use Rattle.prv_parse.proofs.CompleteOperands.{starts-append, starts-within, NoOperator, Closes, read_as, Reads, Enters, operand_at, Fronts, IsRead, expression_reads, number_read, name_read, parens_read, unary_read}
-use Rattle.prv_parse.proofs.CompleteTiers.{fronts_whole, tighter_read, binary_front}
+use Rattle.prv_parse.proofs.CompletePrecedences.{fronts_whole, tighter_read, binary_front}
 
 -- an operator between two operands
-binary_read : (k d p i : ℕ) (s : Sym) (op : BinOp) (left right : List Laid) (a b : ExprTree) → binary_of s ≡ Some op → tier op ≡ suc k
+binary_read : (k d p i : ℕ) (s : Sym) (op : BinOp) (left right : List Laid) (a b : ExprTree) → binary_of s ≡ Some op → precedence op ≡ suc k
     → IsRead (suc k) d left a → IsRead k d right b → IsRead (suc k) d (left ++ lay (tok.Sym s) p d i ∷ right) (expr.Bin op a b)
 binary_read k d p i s op left right a b is its l r = record {
   starts = starts-append d left (lay (tok.Sym s) p d i ∷ right) l.starts;
@@ -29,7 +29,7 @@ binary_read k d p i s op left right a b is its l r = record {
       let same : k ≡ j = omega arith in
       subst (λ j. Fronts j room n (left ++ lay (tok.Sym s) p d i ∷ right) (expr.Bin op a b) rest) same
       (binary_front k room d n p i s op left right a b rest is its l r at (subst (λ j. NoOperator j rest) (sym same) none));
-  last = λ room n rest e at closes. absurd (omega (arith, its, tier-le op));
+  last = λ room n rest e at closes. absurd (omega (arith, its, precedence-le op));
 }
 
 -- a `:` ends an expression
@@ -66,7 +66,7 @@ choice_reads room d n p i q j test pick other c a b rest t f s at closes =
     let counts = counted-append n test (question ∷ behind) at.counted in
     let total : operators n (test ++ question ∷ behind) ≡ operators (operators (suc m) pick) other = operators-append n test (question ∷ behind) ∙ operators-append (suc m) pick (colon ∷ other) in
     let out = read_as (expr.Pick c a b) n (test ++ question ∷ behind) in
-    in_row test (question ∷ behind) (tier_of 10 (operand_at (suc room)) n) (read_as c n test) (λ c r. choice_behind (readers room).expression c r) (Done out rest) rest
+    in_row test (question ∷ behind) (precedence_of 10 (operand_at (suc room)) n) (read_as c n test) (λ c r. choice_behind (readers room).expression c r) (Done out rest) rest
     (t.whole room n (question.token ∷ (tokens_of behind ++ rest)) (omega arith) (record { depth = at.depth; counted = counts.0; small = at.small }) (λ j less. refl))
     (λ within. operates question behind m (λ m r. chosen (readers room).expression c m r) (Done out rest) rest (calm d room question refl at.depth) refl counts.1.0
     (λ fewer. chosen_reads room d (suc m) q j pick other c a b out rest f s (record { depth = omega (arith, at.depth); counted = counts.1.1; small = fewer }) closes

@@ -9,7 +9,7 @@ use Rattle.prv_parse.specs.Operators.{unary_of}
 use Rattle.prv_parse.specs.Texts.{Laid, lay, tokens_of, operators, IsCounted, more_by}
 use Rattle.prv_parse.specs.Grammar.{ident}
 use Rattle.prv_parse.specs.Refusals.{is_deep, is_many, is_within}
-use Rattle.prv_parse.specs.Reader.{Out, Done, Deep, bind, too_deep, Read, ReadExpr, readers, tier_of, tail, head_operator, choice_behind, expect, is_close_paren, with_unary}
+use Rattle.prv_parse.specs.Reader.{Out, Done, Deep, bind, too_deep, Read, ReadExpr, readers, precedence_of, tail, head_operator, choice_behind, expect, is_close_paren, with_unary}
 use Rattle.prv_parse.specs.declared.tree.ExprTree.{ExprTree}
 use Rattle.prv_parse.specs.declared.tree.ExprTree.TheVariants as expr
 use Rattle.prv_parse.proofs.Shown.{shown, shown_at}
@@ -36,7 +36,7 @@ pub starts-within : (d : ℕ) (a : List Laid) → Starts d a → is_within a ≡
 starts-within d [] s within = absurd s
 starts-within d (t ∷ a) s within = shallow (is_deep t) (is_many t) (is_within a) d (λ e. omega (arith, s, ltb-false 100 t.inside e)) within
 
--- no operator of the first tiers stands at the front
+-- no operator of the first precedences stands at the front
 abbrev pub NoOperator : ℕ → List Token → Type 0
 NoOperator k rest = (j : ℕ) → j < k → head_operator (suc j) rest ≡ None
 
@@ -59,20 +59,20 @@ pub record Enters (d room n : ℕ) (text : List Laid) : Type 0 where
   pub counted : IsCounted n text
   pub small : n ≤ 256
 
--- the operands where so many constructs more may be open, the operators of so many tiers over them, and whole expressions
+-- the operands where so many constructs more may be open, the operators of so many precedences over them, and whole expressions
 abbrev pub operand_at : ℕ → ReadExpr
 operand_at room = (readers room).operand
 
--- a text up to operators of its own tier
+-- a text up to operators of its own precedence
 pub record Fronts (k room n : ℕ) (text : List Laid) (e : ExprTree) (rest : List Token) : Type 0 where
   pub fuel : ℕ
   pub enough : 257 ≤ fuel + operators n text
-  pub reads : tier_of (suc k) (operand_at (suc room)) n (tokens_of text ++ rest) ≡ shown text (tail (suc k) (tier_of k (operand_at (suc room))) fuel (read_as e n text) rest) rest
+  pub reads : precedence_of (suc k) (operand_at (suc room)) n (tokens_of text ++ rest) ≡ shown text (tail (suc k) (precedence_of k (operand_at (suc room))) fuel (read_as e n text) rest) rest
 
--- what the readers come to on a text of a tier
+-- what the readers come to on a text of a precedence
 pub record IsRead (k d : ℕ) (text : List Laid) (e : ExprTree) : Type 0 where
   pub starts : Starts d text
-  pub whole : (room n : ℕ) (rest : List Token) → k < 11 → Enters d (suc room) n text → NoOperator k rest → Reads (tier_of k (operand_at (suc room))) n text e rest
+  pub whole : (room n : ℕ) (rest : List Token) → k < 11 → Enters d (suc room) n text → NoOperator k rest → Reads (precedence_of k (operand_at (suc room))) n text e rest
   pub front : (j room n : ℕ) (rest : List Token) → k ≡ suc j → k < 11 → Enters d (suc room) n text → NoOperator j rest → Fronts j room n text e rest
   pub last : (room n : ℕ) (rest : List Token) → k ≡ 11 → Enters d (suc room) n text → Closes rest → Reads (readers (suc room)).expression n text e rest
 

@@ -21,7 +21,7 @@ pub mod Sound
 pub mod CompleteShown
 pub mod CompleteCounts
 pub mod CompleteOperands
-pub mod CompleteTiers
+pub mod CompletePrecedences
 pub mod CompleteExpressions
 pub mod CompleteTakes
 pub mod CompleteParts

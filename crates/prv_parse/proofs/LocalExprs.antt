@@ -8,7 +8,7 @@ use Rattle.prv_lex.specs.declared.token.Token.{Token}
 use Rattle.prv_model.specs.declared.op.UnOp.{UnOp}
 use Rattle.prv_model.specs.declared.op.BinOp.{BinOp}
 use Rattle.prv_parse.specs.Operators.{unary_of}
-use Rattle.prv_parse.specs.Reader.{Out, Done, Many, bind, wanted, expect, is_close_paren, is_colon, is_question, Read, ReadExpr, operator, with_unary, operand_at, operand_of, operator_of, tail, tail_at, tier_of, chosen, choice_at, choice_behind, readers}
+use Rattle.prv_parse.specs.Reader.{Out, Done, Many, bind, wanted, expect, is_close_paren, is_colon, is_question, Read, ReadExpr, operator, with_unary, operand_at, operand_of, operator_of, tail, tail_at, precedence_of, chosen, choice_at, choice_behind, readers}
 use Rattle.prv_parse.specs.declared.tree.ExprTree.{ExprTree}
 use Rattle.prv_parse.specs.declared.tree.ExprTree.TheVariants as expr
 use Rattle.prv_parse.proofs.LocalPairs.{Two, Reads, Step, read, bad_at, many_at, done_at, Looks}
@@ -58,7 +58,7 @@ step-operand w (tok.Key k) t expression operand h n = bad_at true true t
 looks-operand : (w : Two) (expression operand : ReadExpr) → Inside w expression operand → (n : ℕ) → Looks w true true (operand_of expression operand n)
 looks-operand w expression operand h n = record { ends = record { fits = omega arith }; steps = λ t. step-operand w t.tok t expression operand h n }
 
--- operators of a tier behind a left operand
+-- operators of a precedence behind a left operand
 step-tail : (w : Two) (k : ℕ) (next : ReadExpr) → ((n : ℕ) → Reads w false (next n)) → (fuel : ℕ) (left : Read) → ((l : Read) → Looks w false false (tail k next fuel l)) → (o : Option BinOp) (t : Token) → Step w false false t (λ r. tail_at o left next (tail k next fuel) t r)
 step-tail w k next h fuel left more None t = done_at t left
 step-tail w k next h fuel left more (Some op) t =
@@ -70,10 +70,10 @@ looks-tail : (w : Two) (k : ℕ) (next : ReadExpr) → ((n : ℕ) → Reads w fa
 looks-tail w k next h zero left = looks-done w left
 looks-tail w k next h (suc fuel) left = record { ends = record { fits = omega arith }; steps = λ t. step-tail w k next h fuel left (looks-tail w k next h fuel) (operator_of k t.tok) t }
 
--- an expression of a tier
-reads-tier : (w : Two) (operand : ReadExpr) → ((n : ℕ) → Reads w true (operand n)) → (k n : ℕ) → Reads w false (tier_of k operand n)
-reads-tier w operand h zero n = reads-loosen w (h n)
-reads-tier w operand h (suc k) n = behind w (reads-tier w operand h k n) (λ left. looks-tail w (suc k) (tier_of k operand) (reads-tier w operand h k) 257 left)
+-- an expression of a precedence
+reads-precedence : (w : Two) (operand : ReadExpr) → ((n : ℕ) → Reads w true (operand n)) → (k n : ℕ) → Reads w false (precedence_of k operand n)
+reads-precedence w operand h zero n = reads-loosen w (h n)
+reads-precedence w operand h (suc k) n = behind w (reads-precedence w operand h k n) (λ left. looks-tail w (suc k) (precedence_of k operand) (reads-precedence w operand h k) 257 left)
 
 -- a choice behind its `?`
 reads-chosen : (w : Two) (expression : ReadExpr) → ((n : ℕ) → Reads w false (expression n)) → (c : ExprTree) (n : ℕ) → Reads w false (chosen expression c n)
@@ -93,6 +93,6 @@ inside w zero = record { expressions = λ n. reads-deep w false; operands = λ n
 inside w (suc room) =
     let operands : (n : ℕ) → Reads w true (operand_of (readers room).expression (readers room).operand n) = λ n. reads w (looks-operand w _ _ (inside w room) n) in
     record {
-      expressions = λ n. behind w (reads-tier w _ operands 10 n) (λ c. looks-choice w _ (inside w room).expressions c);
+      expressions = λ n. behind w (reads-precedence w _ operands 10 n) (λ c. looks-choice w _ (inside w room).expressions c);
       operands = operands;
     }

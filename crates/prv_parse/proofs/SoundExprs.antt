@@ -6,7 +6,7 @@ use Rattle.prv_lex.specs.declared.token.Sym.TheVariants as sym
 use Rattle.prv_lex.specs.declared.token.Token.{Token}
 use Rattle.prv_model.specs.declared.op.UnOp.{UnOp}
 use Rattle.prv_model.specs.declared.op.BinOp.{BinOp}
-use Rattle.prv_parse.specs.Operators.{unary_of, binary_of, tier}
+use Rattle.prv_parse.specs.Operators.{unary_of, binary_of, precedence}
 use Rattle.prv_parse.specs.Texts.{Laid, lay, operators, IsCounted}
 use Rattle.prv_parse.specs.Grammar.{IsExpr, number, parens, unary, tighter, binary, choice}
 use Rattle.prv_parse.specs.Reader.{Out, Read, ReadExpr}
@@ -41,16 +41,16 @@ IsReader k d f = (n : ℕ) (tokens : List Token) → SoundExpr k d n tokens (f n
 abbrev pub SoundBehind : ℕ → ℕ → ℕ → List Laid → List Token → Out Read → Type 0
 SoundBehind k d n front tokens o = Sound Read (λ text r rest. ReadsExpr k d n (front ++ text) r) (λ text. SomeExpr k d n (front ++ text)) tokens o
 
--- an operand is an expression of each tier
+-- an operand is an expression of each precedence
 pub lifted : {d : ℕ} {text : List Laid} {e : ExprTree} (k : ℕ) → k ≤ 11 → IsExpr 0 d text e → IsExpr k d text e
 lifted zero h r = r
 lifted (suc k) h r = tighter (omega arith) (lifted k (omega arith) r)
 
--- a text of a tier is one of the next
+-- a text of a precedence is one of the next
 pub some-tighter : {k d n : ℕ} {text : List Laid} → k < 11 → SomeExpr k d n text → SomeExpr (suc k) d n text
 some-tighter h s = record { tree = s.tree; reads = tighter h s.reads; counted = s.counted }
 
--- what was read is of the next tier
+-- what was read is of the next precedence
 pub reads-tighter : {k d n : ℕ} {text : List Laid} {r : Read} → k < 11 → ReadsExpr k d n text r → ReadsExpr (suc k) d n text r
 reads-tighter h s = record { reads = tighter h s.reads; counted = s.counted; before_is = s.before_is; shallow = s.shallow }
 
@@ -62,7 +62,7 @@ reads-some {r = r} s = record { tree = r.tree; reads = s.reads; counted = s.coun
 abbrev pub zero_at : ℕ → ℕ → Laid
 zero_at d n = lay (tok.Num (pos 0)) 0 d n
 
--- it is an expression of each tier
+-- it is an expression of each precedence
 pub zero-some : (k d n : ℕ) → k ≤ 11 → SomeExpr k d n (zero_at d n ∷ [])
 zero-some k d n h = record { tree = expr.Num (pos 0); reads = lifted k h (number (pos 0)); counted = (refl, tt) }
 
@@ -110,7 +110,7 @@ module _ (d p n : ℕ) (s : Sym) (op : UnOp) (is : unary_of s ≡ Some op) (text
         shallow = shallow;
       }
 
-module _ (k d p n : ℕ) (s : Sym) (op : BinOp) (is : binary_of s ≡ Some op) (at : tier op ≡ suc k) (front : List Laid) (left : Read) (before : ReadsExpr (suc k) d n front left) (text : List Laid) where
+module _ (k d p n : ℕ) (s : Sym) (op : BinOp) (is : binary_of s ≡ Some op) (at : precedence op ≡ suc k) (front : List Laid) (left : Read) (before : ReadsExpr (suc k) d n front left) (text : List Laid) where
   binary-counted : IsCounted (suc left.before) text → IsCounted n (front ++ lay (tok.Sym s) p d left.before ∷ text)
   binary-counted h =
       counted-append n front (lay (tok.Sym s) p d left.before ∷ text) before.counted

@@ -10,7 +10,7 @@ use Rattle.prv_model.specs.declared.op.BinOp.{BinOp}
 use Rattle.prv_parse.specs.Operators.{unary_of}
 use Rattle.prv_parse.specs.Texts.{Laid, lay, operators}
 use Rattle.prv_parse.specs.Grammar.{number, name}
-use Rattle.prv_parse.specs.Reader.{Out, Done, bind, Read, ReadExpr, Readers, readers, is_close_paren, is_colon, is_question, in_parens, with_unary, operand_at, operand_of, operator_of, tail_at, tail, tier_of, chosen, choice_at, choice_behind, choice_of}
+use Rattle.prv_parse.specs.Reader.{Out, Done, bind, Read, ReadExpr, Readers, readers, is_close_paren, is_colon, is_question, in_parens, with_unary, operand_at, operand_of, operator_of, tail_at, tail, precedence_of, chosen, choice_at, choice_behind, choice_of}
 use Rattle.prv_parse.specs.declared.tree.ExprTree.TheVariants as expr
 use Rattle.prv_parse.proofs.SoundFrame.{no_more, behind, turned, seen_as, one, nothing, stop, all_deep, plain-within, expected}
 use Rattle.prv_parse.proofs.SoundTokens.{only-close_paren, only-colon, only-question, unary-operator, binary-operator, IsOperatorOf, operator_of-is, shallow, further, too_far}
@@ -101,7 +101,7 @@ module _ (d : ℕ) (expression operand : ReadExpr) (here : nat_lt 100 d ≡ fals
       by false e = ended-here n front c (t ∷ rest) (reads-tighter (omega arith) w)
 
 module _ (k d n : ℕ) (tight : suc k ≤ 11) (next : ReadExpr) (next-right : IsReader k d next) where
-  -- nothing more of the tier follows
+  -- nothing more of the precedence follows
   tail-ended : (front : List Laid) (left : Read) (rest : List Token) → ReadsExpr (suc k) d n front left → SoundBehind (suc k) d n front rest (Done left rest)
   tail-ended front left rest w = nothing (subst (λ text. ReadsExpr (suc k) d n text left) (sym (append-nil front)) w)
 
@@ -109,7 +109,7 @@ module _ (k d n : ℕ) (tight : suc k ≤ 11) (next : ReadExpr) (next-right : Is
   abbrev GoesOn : (Read → List Token → Out Read) → Type 0
   GoesOn more = (front : List Laid) (left : Read) (rest : List Token) → ReadsExpr (suc k) d n front left → SoundBehind (suc k) d n front rest (more left rest)
 
-  -- an operator of the tier follows
+  -- an operator of the precedence follows
   operator-right : (more : Read → List Token → Out Read) → GoesOn more → (front : List Laid) (left : Read) (w : Tok) (p : ℕ) (rest : List Token) (op : BinOp)
       → ReadsExpr (suc k) d n front left → IsOperatorOf (suc k) w op
       → SoundBehind (suc k) d n front (record { tok = w; place = p } ∷ rest) (tail_at (Some op) left next more (record { tok = w; place = p }) rest)
@@ -118,17 +118,17 @@ module _ (k d n : ℕ) (tight : suc k ≤ 11) (next : ReadExpr) (next-right : Is
       (operated (λ m r. bind (next m r) (λ right u. more (record { tree = expr.Bin op left.tree right.tree; before = right.before }) u)) d left.before (record { tok = tok.Sym is.symbol; place = p }) rest (binary-operator is.symbol op is.operator_is) before.shallow
       (record {
         more = zero_at d (suc left.before) ∷ [];
-        closed = some-binary k d p n is.symbol op is.operator_is is.tier_is front left before (zero_at d (suc left.before) ∷ []) (zero-some k d (suc left.before) (omega arith));
+        closed = some-binary k d p n is.symbol op is.operator_is is.precedence_is front left before (zero_at d (suc left.before) ∷ []) (zero-some k d (suc left.before) (omega arith));
       })
       (behind (next-right (suc left.before) rest)
-      (λ text s. no_more text (some-binary k d p n is.symbol op is.operator_is is.tier_is front left before text s))
+      (λ text s. no_more text (some-binary k d p n is.symbol op is.operator_is is.precedence_is front left before text s))
       (λ text right r v. seen_as
       (go (front ++ lay (tok.Sym is.symbol) p d left.before ∷ text) (record { tree = expr.Bin op left.tree right.tree; before = right.before }) r
-      (reads-binary k d p n is.symbol op is.operator_is is.tier_is front left before text right v))
+      (reads-binary k d p n is.symbol op is.operator_is is.precedence_is front left before text right v))
       (λ last s. subst (λ t. SomeExpr (suc k) d n t) (append_assoc front (lay (tok.Sym is.symbol) p d left.before ∷ text) last) s)
       (λ last a u s. subst (λ t. ReadsExpr (suc k) d n t a) (append_assoc front (lay (tok.Sym is.symbol) p d left.before ∷ text) last) s))))
 
-  -- an operator of the tier, or none, follows
+  -- an operator of the precedence, or none, follows
   tail_at-right : (more : Read → List Token → Out Read) → GoesOn more → (o : Option BinOp) (front : List Laid) (left : Read) (t : Token) (rest : List Token)
       → ReadsExpr (suc k) d n front left → operator_of (suc k) t.tok ≡ o → SoundBehind (suc k) d n front (t ∷ rest) (tail_at o left next more t rest)
   tail_at-right more go None front left t rest before is = tail-ended front left (t ∷ rest) before
@@ -142,13 +142,13 @@ module _ (k d n : ℕ) (tight : suc k ≤ 11) (next : ReadExpr) (next-right : Is
   tail-right (suc fuel) front left (t ∷ rest) w =
       tail_at-right (tail (suc k) next fuel) (λ f l r v. tail-right fuel f l r v) (operator_of (suc k) t.tok) front left t rest w refl
 
--- a tier, over its operands
-tier-right : (d : ℕ) (operand : ReadExpr) → IsReader 0 d operand → (k : ℕ) → k ≤ 11 → IsReader k d (tier_of k operand)
-tier-right d operand right zero h n tokens = right n tokens
-tier-right d operand right (suc k) h n tokens =
-    behind (tier-right d operand right k (omega arith) n tokens)
+-- a precedence, over its operands
+precedence-right : (d : ℕ) (operand : ReadExpr) → IsReader 0 d operand → (k : ℕ) → k ≤ 11 → IsReader k d (precedence_of k operand)
+precedence-right d operand right zero h n tokens = right n tokens
+precedence-right d operand right (suc k) h n tokens =
+    behind (precedence-right d operand right k (omega arith) n tokens)
     (λ text s. no_more text (some-tighter (omega arith) s))
-    (λ text left rest w. tail-right k d n h (tier_of k operand) (tier-right d operand right k (omega arith)) 257 text left rest (reads-tighter (omega arith) w))
+    (λ text left rest w. tail-right k d n h (precedence_of k operand) (precedence-right d operand right k (omega arith)) 257 text left rest (reads-tighter (omega arith) w))
 
 -- the readers inside so many constructs are right
 pub record AreRight (d : ℕ) (r : Readers) : Type 0 where
@@ -159,7 +159,7 @@ pub record AreRight (d : ℕ) (r : Readers) : Type 0 where
 choice_of-right : (d : ℕ) (expression operand : ReadExpr) → nat_lt 100 d ≡ false → IsReader 11 (suc d) expression → IsReader 0 (suc d) operand
     → IsReader 11 d (choice_of (operand_of expression operand) expression)
 choice_of-right d expression operand here e o n tokens =
-    behind (tier-right d (operand_of expression operand) (operand_of-right d expression operand here e o) 10 (omega arith) n tokens)
+    behind (precedence-right d (operand_of expression operand) (operand_of-right d expression operand here e o) 10 (omega arith) n tokens)
     (λ text s. no_more text (some-tighter (omega arith) s))
     (λ text c rest w. choice_behind-right d expression operand here e o n text c w rest)
 

@@ -7,8 +7,8 @@ use Rattle.prv_lex.specs.declared.token.Sym.{Sym}
 use Rattle.prv_lex.specs.declared.token.Sym.TheVariants as sym
 use Rattle.prv_model.specs.declared.op.UnOp.{UnOp}
 use Rattle.prv_model.specs.declared.op.BinOp.{BinOp}
-use Rattle.prv_parse.specs.Operators.{unary_of, binary_of, tier, is_operation, is_operator}
-use Rattle.prv_parse.specs.Reader.{of_tier, operator_of, is_open_paren, is_close_paren, is_open_brace, is_close_brace, is_semicolon, is_assign, is_colon, is_question, is_comma, is_int, is_main, is_else}
+use Rattle.prv_parse.specs.Operators.{unary_of, binary_of, precedence, is_operation, is_operator}
+use Rattle.prv_parse.specs.Reader.{of_precedence, operator_of, is_open_paren, is_close_paren, is_open_brace, is_close_brace, is_semicolon, is_assign, is_colon, is_question, is_comma, is_int, is_main, is_else}
 
 -- only `(`
 pub only-open_paren : (w : Tok) → is_open_paren w ≡ true → w ≡ tok.Sym sym.OpenParen
@@ -89,12 +89,12 @@ unary-operator s op e = ap (λ u. is_operation s u (binary_of s)) e ∙ operatio
 pub binary-operator : (s : Sym) (op : BinOp) → binary_of s ≡ Some op → is_operator (tok.Sym s) ≡ true
 binary-operator s op e = ap (λ b. is_operation s (unary_of s) b) e ∙ operation-binary s (unary_of s) op
 
--- a token is the operator of a tier
+-- a token is the operator of a precedence
 pub record IsOperatorOf (k : ℕ) (w : Tok) (op : BinOp) : Type 0 where
   pub symbol : Sym
   pub token_is : w ≡ tok.Sym symbol
   pub operator_is : binary_of symbol ≡ Some op
-  pub tier_is : tier op ≡ k
+  pub precedence_is : precedence op ≡ k
 
 -- no operator is none
 none≢some : (op : BinOp) → ◌≡◌ {A = Option BinOp} None (Some op) → ⊥
@@ -104,18 +104,18 @@ none≢some op e = cc
 some-is : (a b : BinOp) → Some a ≡ Some b → a ≡ b
 some-is a b e = cc
 
--- the operator of a symbol, where it is of the tier
-of_tier-is : (k : ℕ) (s : Sym) (o : Option BinOp) (op : BinOp) → binary_of s ≡ o → of_tier k o ≡ Some op → IsOperatorOf k (tok.Sym s) op
-of_tier-is k s None op e h = absurd (none≢some op h)
-of_tier-is k s (Some a) op e h = by (tier a == k) refl h
+-- the operator of a symbol, where it is of the precedence
+of_precedence-is : (k : ℕ) (s : Sym) (o : Option BinOp) (op : BinOp) → binary_of s ≡ o → of_precedence k o ≡ Some op → IsOperatorOf k (tok.Sym s) op
+of_precedence-is k s None op e h = absurd (none≢some op h)
+of_precedence-is k s (Some a) op e h = by (precedence a == k) refl h
   where
-    by : (b : Bool) → (tier a == k) ≡ b → (if b then Some a else None) ≡ Some op → IsOperatorOf k (tok.Sym s) op
-    by true t g = let same : a ≡ op = some-is a op g in record { symbol = s; token_is = refl; operator_is = e ∙ ap Some same; tier_is = ap tier (sym same) ∙ eqb-true (tier a) k t }
+    by : (b : Bool) → (precedence a == k) ≡ b → (if b then Some a else None) ≡ Some op → IsOperatorOf k (tok.Sym s) op
+    by true t g = let same : a ≡ op = some-is a op g in record { symbol = s; token_is = refl; operator_is = e ∙ ap Some same; precedence_is = ap precedence (sym same) ∙ eqb-true (precedence a) k t }
     by false t g = absurd (none≢some op g)
 
 -- the operator that a token is
 pub operator_of-is : (k : ℕ) (w : Tok) (op : BinOp) → operator_of k w ≡ Some op → IsOperatorOf k w op
-operator_of-is k (tok.Sym s) op e = of_tier-is k s (binary_of s) op refl e
+operator_of-is k (tok.Sym s) op e = of_precedence-is k s (binary_of s) op refl e
 operator_of-is k (tok.Num w) op e = absurd (none≢some op e)
 operator_of-is k (tok.Name w) op e = absurd (none≢some op e)
 operator_of-is k (tok.Key w) op e = absurd (none≢some op e)

@@ -1,7 +1,7 @@
 -- One step of the reader's recursions.
 use Rattle.std.proofs.Common.{◌≡◌, ℕ, zero, suc, ◌-◌, ◌<◌, List, [], ◌∷◌, refl, sym, ap, subst, arith, ◌∙◌, Bool, true, false, Some, None, Result}
 use Rattle.prv_lex.specs.declared.token.Token.{Token}
-use Rattle.prv_parse.specs.Reader.{Out, Done, Bad, Deep, Many, bind, Read, ReadExpr, readers, tier_of, tail, tail_at, choice_behind, head_operator, operand_of}
+use Rattle.prv_parse.specs.Reader.{Out, Done, Bad, Deep, Many, bind, Read, ReadExpr, readers, precedence_of, tail, tail_at, choice_behind, head_operator, operand_of}
 use Rattle.std.specs.Prelude.{nat_le, if◌then◌else◌}
 use Rattle.prv_model.specs.declared.op.BinOp.{BinOp}
 use Rattle.prv_parse.specs.declared.tree.ExprTree.TheVariants as expr
@@ -11,7 +11,7 @@ use Rattle.prv_parse.specs.declared.stop.Stop.TheVariants as stop
 use Rattle.prv_parse.specs.declared.expression.ReadExpr.{ReadExpr as Found}
 
 pub expression-step : (room n : ℕ) (ts : List Token) → 0 < room
-    → (readers room).expression n ts ≡ bind (tier_of 10 (readers room).operand n ts) (λ c r. choice_behind (readers (room - 1)).expression c r)
+    → (readers room).expression n ts ≡ bind (precedence_of 10 (readers room).operand n ts) (λ c r. choice_behind (readers (room - 1)).expression c r)
 expression-step zero n ts h = absurd (omega arith)
 expression-step (suc room) n ts h = let e : suc room - 1 ≡ room = omega arith in rw e
 
@@ -20,10 +20,10 @@ pub operand-step : (room n : ℕ) (ts : List Token) → 0 < room
 operand-step zero n ts h = absurd (omega arith)
 operand-step (suc room) n ts h = let e : suc room - 1 ≡ room = omega arith in rw e
 
-pub tier-step : (k : ℕ) (operand : ReadExpr) (n : ℕ) (ts : List Token) → 0 < k
-    → tier_of k operand n ts ≡ bind (tier_of (k - 1) operand n ts) (λ left rest. tail k (tier_of (k - 1) operand) 257 left rest)
-tier-step zero operand n ts h = absurd (omega arith)
-tier-step (suc k) operand n ts h = let e : suc k - 1 ≡ k = omega arith in rw e
+pub precedence-step : (k : ℕ) (operand : ReadExpr) (n : ℕ) (ts : List Token) → 0 < k
+    → precedence_of k operand n ts ≡ bind (precedence_of (k - 1) operand n ts) (λ left rest. tail k (precedence_of (k - 1) operand) 257 left rest)
+precedence-step zero operand n ts h = absurd (omega arith)
+precedence-step (suc k) operand n ts h = let e : suc k - 1 ≡ k = omega arith in rw e
 
 pub tail-at-joined : (op : BinOp) (first : Read) (next : ReadExpr) (more : Read → List Token → Out Read) (t : Token) (rest : List Token)
     → tail_at (Some op) first next more t rest ≡ bind (joined op first next t rest) more
@@ -41,7 +41,7 @@ tail-at-joined op first next more t rest = many (nat_le 256 first.before) (next 
     many true o = refl
     many false o = read o
 
--- what follows a left operand, where an operator of the tier comes next
+-- what follows a left operand, where an operator of the precedence comes next
 pub tail-joined : (k : ℕ) (next : ReadExpr) (fuel : ℕ) (first : Read) (op : BinOp) (ts : List Token) → 0 < fuel → head_operator k ts ≡ Some op
     → tail k next fuel first ts ≡ bind (head_joined op first next ts) (λ left rest. tail k next (fuel - 1) left rest)
 tail-joined k next fuel first op [] h e = cc

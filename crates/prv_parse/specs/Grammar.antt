@@ -6,7 +6,7 @@ use Rattle.prv_lex.specs.declared.token.Sym.{Sym}
 use Rattle.prv_lex.specs.declared.token.Sym.TheVariants as sym
 use Rattle.prv_model.specs.declared.op.UnOp.{UnOp}
 use Rattle.prv_model.specs.declared.op.BinOp.{BinOp}
-use Rattle.prv_parse.specs.Operators.{unary_of, binary_of, tier}
+use Rattle.prv_parse.specs.Operators.{unary_of, binary_of, precedence}
 use Rattle.prv_parse.specs.Texts.{Laid, lay, tokens_of, IsCounted}
 use Rattle.prv_parse.specs.Skeletons.{plain, hole}
 use Rattle.prv_parse.specs.declared.skeleton.Skel.{Skel}
@@ -27,7 +27,7 @@ ident name place = record { name = name; place = place }
 abbrev pub mark_at : ℕ → ℕ → Mark
 mark_at number place = record { number = number; place = place }
 
--- expressions: tier 0 are operands, 1 to 10 the operators from the tightest to the loosest, each grouped to the left, and 11 choices, grouped to the right
+-- expressions: precedence 0 are operands, 1 to 10 the operators from the tightest to the loosest, each grouped to the left, and 11 choices, grouped to the right
 pub data IsExpr : ℕ → ℕ → List Laid → ExprTree → Type 0 where
   number : {d p n : ℕ} (w : ℤ) → IsExpr 0 d (lay (tok.Num w) p d n ∷ []) (expr.Num w)
   name : {d p n : ℕ} (x : List ℕ) → IsExpr 0 d (lay (tok.Name x) p d n ∷ []) (expr.Name (ident x p))
@@ -36,7 +36,7 @@ pub data IsExpr : ℕ → ℕ → List Laid → ExprTree → Type 0 where
   unary : {d p n : ℕ} {a : ExprTree} (s : Sym) (op : UnOp) (operand : List Laid) → unary_of s ≡ Some op → IsExpr 0 (suc d) operand a
       → IsExpr 0 d (lay (tok.Sym s) p d n ∷ operand) (expr.Un op a)
   tighter : {k d : ℕ} {text : List Laid} {e : ExprTree} → k < 11 → IsExpr k d text e → IsExpr (suc k) d text e
-  binary : {k d : ℕ} {a b : ExprTree} (p n : ℕ) (s : Sym) (op : BinOp) (left right : List Laid) → binary_of s ≡ Some op → tier op ≡ suc k
+  binary : {k d : ℕ} {a b : ExprTree} (p n : ℕ) (s : Sym) (op : BinOp) (left right : List Laid) → binary_of s ≡ Some op → precedence op ≡ suc k
       → IsExpr (suc k) d left a → IsExpr k d right b
       → IsExpr (suc k) d (left ++ lay (tok.Sym s) p d n ∷ right) (expr.Bin op a b)
   choice : {d : ℕ} {c a b : ExprTree} (p n q m : ℕ) (test chosen other : List Laid) → IsExpr 10 d test c → IsExpr 11 (suc d) chosen a → IsExpr 11 (suc d) other b

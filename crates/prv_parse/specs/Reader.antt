@@ -9,7 +9,7 @@ use Rattle.prv_lex.specs.declared.token.Sym.TheVariants as sym
 use Rattle.prv_lex.specs.declared.token.Token.{Token}
 use Rattle.prv_model.specs.declared.op.UnOp.{UnOp}
 use Rattle.prv_model.specs.declared.op.BinOp.{BinOp}
-use Rattle.prv_parse.specs.Operators.{unary_of, binary_of, tier}
+use Rattle.prv_parse.specs.Operators.{unary_of, binary_of, precedence}
 use Rattle.prv_parse.specs.Skeletons.{kept, plain, hole}
 use Rattle.prv_parse.specs.Grammar.{ident, mark_at}
 use Rattle.prv_parse.specs.declared.skeleton.Skel.{Skel}
@@ -118,13 +118,13 @@ abbrev pub operand_of : ReadExpr → ReadExpr → ReadExpr
 operand_of expression operand n [] = Bad []
 operand_of expression operand n (t ∷ rest) = operand_at t.tok t expression operand n rest
 
--- the operator of a tier that a token is between two operands
-abbrev pub of_tier : ℕ → Option BinOp → Option BinOp
-of_tier k None = None
-of_tier k (Some op) = if tier op == k then Some op else None
+-- the operator of a precedence that a token is between two operands
+abbrev pub of_precedence : ℕ → Option BinOp → Option BinOp
+of_precedence k None = None
+of_precedence k (Some op) = if precedence op == k then Some op else None
 
 abbrev pub operator_of : ℕ → Tok → Option BinOp
-operator_of k (tok.Sym s) = of_tier k (binary_of s)
+operator_of k (tok.Sym s) = of_precedence k (binary_of s)
 operator_of k _ = None
 
 abbrev pub head_operator : ℕ → List Token → Option BinOp
@@ -137,16 +137,16 @@ tail_at None left next more t rest = Done left (t ∷ rest)
 tail_at (Some op) left next more t rest =
     operator left.before t rest (λ m r. bind (next m r) (λ right s. more (record { tree = expr.Bin op left.tree right.tree; before = right.before }) s))
 
--- what follows a left operand: operators of the tier, each with its right operand, at most so many
+-- what follows a left operand: operators of the precedence, each with its right operand, at most so many
 abbrev pub tail : ℕ → ReadExpr → ℕ → Read → List Token → Out Read
 tail k next zero left rest = Done left rest
 tail k next (suc fuel) left [] = Done left []
 tail k next (suc fuel) left (t ∷ rest) = tail_at (operator_of k t.tok) left next (tail k next fuel) t rest
 
--- an expression of a tier, over its operands
-abbrev pub tier_of : ℕ → ReadExpr → ReadExpr
-tier_of zero operand n tokens = operand n tokens
-tier_of (suc k) operand n tokens = bind (tier_of k operand n tokens) (λ left rest. tail (suc k) (tier_of k operand) 257 left rest)
+-- an expression of a precedence, over its operands
+abbrev pub precedence_of : ℕ → ReadExpr → ReadExpr
+precedence_of zero operand n tokens = operand n tokens
+precedence_of (suc k) operand n tokens = bind (precedence_of k operand n tokens) (λ left rest. tail (suc k) (precedence_of k operand) 257 left rest)
 
 -- a choice behind its test, where a `?` stands there: `expression` is one inside it
 abbrev pub chosen : ReadExpr → ExprTree → ReadExpr
@@ -166,7 +166,7 @@ choice_behind expression c [] = Done c []
 choice_behind expression c (t ∷ rest) = choice_at (is_question t.tok) expression c t rest
 
 abbrev pub choice_of : ReadExpr → ReadExpr → ReadExpr
-choice_of operand expression n tokens = bind (tier_of 10 operand n tokens) (λ c rest. choice_behind expression c rest)
+choice_of operand expression n tokens = bind (precedence_of 10 operand n tokens) (λ c rest. choice_behind expression c rest)
 
 -- operands and expressions, where so many constructs more may be open, this one included
 pub record Readers : Type 0 where

@@ -1,11 +1,11 @@
 ghost use Rattle.std.specs.Prelude.{◌≡◌, ◌+◌, ◌-◌, ◌≤◌, ◌<◌, ◌∷◌, length, drop, MatchOption, OnOk, IfSome, Some};
 ghost use Rattle.prv_parse.specs.Operators.{unary_of};
-ghost use Rattle.prv_parse.specs.Reader.{readers, in_parens, with_unary, tier_of, tail, choice_behind, chosen as chosen_in, expect, is_close_paren, is_colon, operator_of, head_operator};
+ghost use Rattle.prv_parse.specs.Reader.{readers, in_parens, with_unary, precedence_of, tail, choice_behind, chosen as chosen_in, expect, is_close_paren, is_colon, operator_of, head_operator};
 ghost use Rattle.prv_parse.specs.Cursors.{left as left_of, read_of, ReadsExpr, head_joined};
 
 use crate::cursor::Cursor;
 use crate::fixed::Fixed;
-use crate::operators::{binary, tier, unary};
+use crate::operators::{binary, precedence, unary};
 use crate::stop::Stop;
 use crate::tree::{ExprTree, Ident};
 use prv_lex::{Sym, Tok, Token};
@@ -13,7 +13,7 @@ use prv_model::{BinOp, MAX_OPERATORS};
 use sqlite_items::Boxed;
 use std::alloc::Global;
 
-/// The loosest tier of operators between two operands.
+/// The loosest precedence of operators between two operands.
 const LOOSEST: u32 = 10;
 
 /// An expression, and how many operators of its full expression were read up to its end.
@@ -36,7 +36,7 @@ impl<'t> Cursor<'t> {
                 Some(_) => Err(Stop::Depth),
             };
         }
-        let test = self.tier(alloc, before, room, LOOSEST)?;
+        let test = self.precedence(alloc, before, room, LOOSEST)?;
         self.choice(alloc, test, room)
     }
 
@@ -67,46 +67,52 @@ impl<'t> Cursor<'t> {
         })
     }
 
-    /// Reads an expression of a tier: an operand in tier 0, else operators of the tier between
-    /// expressions of the tier below.
+    /// Reads an expression of a precedence: an operand for 0, else operators of the precedence between
+    /// expressions of the next tighter one.
     #[cycle(expression)]
-    fn tier(&mut self, alloc: Global, before: u32, room: u32, tier: u32) -> Result<ReadExpr, Stop>
-        requires { tier ≤ 10 }
+    fn precedence(
+        &mut self,
+        alloc: Global,
+        before: u32,
+        room: u32,
+        precedence: u32,
+    ) -> Result<ReadExpr, Stop>
+        requires { precedence ≤ 10 }
         ensures tokens { self.new.tokens.now ≡ self.old.tokens.now }
-        ensures reads { ReadsExpr (tier_of tier (readers room).operand before (left_of self.old)) (left_of self.new) result }
+        ensures reads { ReadsExpr (precedence_of precedence (readers room).operand before (left_of self.old)) (left_of self.new) result }
     {
-        if tier == 0 {
+        if precedence == 0 {
             return self.operand(alloc, before, room);
         }
-        let first = self.tier(alloc, before, room, tier - 1)?;
-        self.tail(alloc, first, room, tier)
+        let first = self.precedence(alloc, before, room, precedence - 1)?;
+        self.tail(alloc, first, room, precedence)
     }
 
-    /// Reads what follows a left operand: operators of the tier, each with its right operand.
+    /// Reads what follows a left operand: operators of the precedence, each with its right operand.
     #[cycle(expression)]
     fn tail(
         &mut self,
         alloc: Global,
         first: ReadExpr,
         room: u32,
-        tier: u32,
+        precedence: u32,
     ) -> Result<ReadExpr, Stop>
-        requires some { 1 ≤ tier }
-        requires few { tier ≤ 10 }
+        requires some { 1 ≤ precedence }
+        requires few { precedence ≤ 10 }
         ensures tokens { self.new.tokens.now ≡ self.old.tokens.now }
-        ensures reads { ReadsExpr (tail tier (tier_of (tier - 1) (readers room).operand) 257 (read_of first) (left_of self.old)) (left_of self.new) result }
+        ensures reads { ReadsExpr (tail precedence (precedence_of (precedence - 1) (readers room).operand) 257 (read_of first) (left_of self.old)) (left_of self.new) result }
     {
         let mut left = first;
         for count in 0..257u32 {
-            let Some(op) = self.operator(tier) else {
+            let Some(op) = self.operator(precedence) else {
                 return Ok(left);
             };
-            left = self.joined(alloc, op, left, room, tier)?;
+            left = self.joined(alloc, op, left, room, precedence)?;
         }
         Ok(left)
     }
 
-    /// Reads an operator of a tier with its right operand, behind its left one.
+    /// Reads an operator of a precedence with its right operand, behind its left one.
     #[cycle(expression)]
     fn joined(
         &mut self,
@@ -114,13 +120,13 @@ impl<'t> Cursor<'t> {
         op: BinOp,
         left: ReadExpr,
         room: u32,
-        tier: u32,
+        precedence: u32,
     ) -> Result<ReadExpr, Stop>
-        requires some { 1 ≤ tier }
-        requires few { tier ≤ 10 }
-        requires next { head_operator tier (left_of self.old) ≡ Some op }
+        requires some { 1 ≤ precedence }
+        requires few { precedence ≤ 10 }
+        requires next { head_operator precedence (left_of self.old) ≡ Some op }
         ensures tokens { self.new.tokens.now ≡ self.old.tokens.now }
-        ensures reads { ReadsExpr (head_joined op (read_of left) (tier_of (tier - 1) (readers room).operand) (left_of self.old)) (left_of self.new) result }
+        ensures reads { ReadsExpr (head_joined op (read_of left) (precedence_of (precedence - 1) (readers room).operand) (left_of self.old)) (left_of self.new) result }
     {
         if self.peek().is_none() {
             return Err(Stop::Syntax);
@@ -129,7 +135,7 @@ impl<'t> Cursor<'t> {
             return Err(Stop::Operators);
         }
         self.advance();
-        let right = self.tier(alloc, left.before + 1, room, tier - 1)?;
+        let right = self.precedence(alloc, left.before + 1, room, precedence - 1)?;
         Ok(ReadExpr {
             tree: ExprTree::Bin(
                 op,
@@ -212,7 +218,7 @@ impl<'t> Cursor<'t> {
         Ok(inner)
     }
 
-    /// The operator of a tier that comes next, if one does.
+    /// The operator of a precedence that comes next, if one does.
     fn operator(&self, wanted: u32) -> Option<BinOp>
         ensures { result ≡ head_operator wanted (left_of self.now) }
     {
@@ -221,6 +227,10 @@ impl<'t> Cursor<'t> {
             return None;
         };
         let op = binary(*sym)?;
-        if tier(op) == wanted { Some(op) } else { None }
+        if precedence(op) == wanted {
+            Some(op)
+        } else {
+            None
+        }
     }
 }

@@ -1,5 +1,5 @@
 ghost use Rattle.std.specs.Prelude.{◌≡◌};
-ghost use Rattle.prv_parse.specs.Operators.{unary_of, binary_of, tier as tier_of};
+ghost use Rattle.prv_parse.specs.Operators.{unary_of, binary_of, precedence as precedence_of};
 
 use prv_lex::Sym;
 use prv_model::{BinOp, UnOp};
@@ -45,8 +45,8 @@ pub fn binary(sym: Sym) -> Option<BinOp>
 
 /// How loosely an operator between two operands binds: 1 for the tightest, 10 for the loosest (ISO/IEC
 /// 9899:1999, 6.5.5 to 6.5.14).
-pub fn tier(op: BinOp) -> u32
-    ensures { result ≡ tier_of op }
+pub fn precedence(op: BinOp) -> u32
+    ensures { result ≡ precedence_of op }
 {
     match op {
         BinOp::Mul | BinOp::Div | BinOp::Rem => 1,
