@@ -1,7 +1,7 @@
 -- What the fields of a disk in memory keep, as calls go on.
-use Rattle.std.proofs.Common.{◌≡◌, ℕ, zero, suc, ◌+◌, ◌<◌, ◌≤◌, ◌==◌, List, [], ◌∷◌, ◌++◌, length, take, drop, if◌then◌else◌, false, refl, sym, ◌∙◌, ap, arith, add-one, length-append}
+use Rattle.std.proofs.Common.{◌≡◌, ℕ, zero, suc, ◌+◌, ◌<◌, ◌==◌, List, [], ◌∷◌, ◌++◌, length, take, drop, if◌then◌else◌, false, refl, sym, ◌∙◌, ap, arith, add-one, length-append}
 use Rattle.std.proofs.lemmas.Bool.Decides.{nat_tests}
-use Rattle.std.proofs.lemmas.List.{take-append-le, drop-append-le, take_all, drop_all, append-nil}
+use Rattle.std.proofs.lemmas.List.{take-append-le, drop-append-le, take_all, drop_all}
 use Rattle.prv_disk.specs.Bytes.{overwritten}
 use Rattle.prv_disk.specs.MemDisk.{Event, Wrote, Passed, Synced, content, crashed, picked, times, then_quiet, then_writes, Written, Calls, after_picks, quiet, IsKept}
 use Rattle.prv_disk.specs.declared.quiet_calls.QuietCalls.{QuietCalls}

@@ -1,5 +1,5 @@
 -- Counts of faults, and calls of a disk in memory some of which are to fail.
-use Rattle.std.specs.Prelude.{◌≡◌, ℕ, ◌+◌, ◌-◌, ◌^◌, ◌≤◌, ◌==◌, min, List, Bool, if◌then◌else◌, Result, Ok, Err, ⊤}
+use Rattle.std.specs.Prelude.{ℕ, ◌+◌, ◌-◌, ◌^◌, ◌≤◌, ◌==◌, min, List, Bool, if◌then◌else◌, Result, Ok, Err, ⊤}
 use Rattle.std.specs.List.{list_any}
 use Rattle.prv_disk.specs.declared.disk.DiskError.{DiskError}
 use Rattle.prv_disk.specs.declared.disk.DiskError.TheVariants.{Failed, Memory}

@@ -1,5 +1,5 @@
 -- Laws of the images of a disk in memory.
-use Rattle.std.proofs.Common.{◌≡◌, inl, inr, ℕ, ◌+◌, ◌≤◌, List, [], ◌∷◌, ◌++◌, length, take, drop, refl, arith, length-append, length-take, length-drop}
+use Rattle.std.proofs.Common.{◌≡◌, inl, inr, ℕ, ◌+◌, List, [], ◌∷◌, ◌++◌, length, take, drop, refl, arith, length-append, length-take, length-drop}
 use Rattle.prv_disk.specs.Bytes.{overwritten, Torn}
 use Rattle.prv_disk.specs.MemDisk.{Event, Wrote, Passed, Synced, content, MayLeave, LeftSince}
 

@@ -1,8 +1,7 @@
 -- What a journal says after an append, from what its file ended with before.
-use Rattle.std.proofs.Common.{◌≡◌, ◌⊎◌, inl, inr, ⊎_elim, ℕ, ◌+◌, ◌≤◌, List, [], ◌∷◌, ◌++◌, length, refl, sym, ◌∙◌, ap, arith, length-append}
-use Rattle.prv_disk.specs.Crashes.{Only, AddsOnly}
+use Rattle.std.proofs.Common.{◌≡◌, inl, inr, ⊎_elim, ℕ, ◌+◌, List, [], ◌∷◌, ◌++◌, length, sym, ◌∙◌, ap, arith, length-append}
 use Rattle.prv_journal.specs.Records.{Payloads, records, followed_by}
-use Rattle.prv_journal.specs.Ends.{EndsAt, IsSettled, HasSettled}
+use Rattle.prv_journal.specs.Ends.{IsSettled, HasSettled}
 use Rattle.prv_journal.specs.Journals.{Has, HasOrWith, HasBeforeOrWith}
 use Rattle.prv_journal.proofs.RecordsRead.{records-end}
 

@@ -1,5 +1,5 @@
 -- How the calls of a disk go on.
-use Rattle.std.proofs.Common.{◌⊎◌, inl, inr, ⊎_elim, ℕ, ◌≤◌, List, arith}
+use Rattle.std.proofs.Common.{inl, inr, ⊎_elim, ℕ, ◌≤◌, List, arith}
 use Rattle.prv_disk.specs.Crashes.{NoMore, Passes, AddsOnly}
 
 -- one call

@@ -3,7 +3,7 @@ use Rattle.std.proofs.Common.{◌≡◌, ◌≢◌, ℕ, suc, ◌+◌, ◌-◌, 
 use Rattle.std.proofs.lemmas.Bool.Decides.{nat_tests}
 use Rattle.std.proofs.lemmas.List.{take_at, take-append-drop, length-take-le}
 use Rattle.std.proofs.Math.Seq.{drop-cons, take-length}
-use Rattle.prv_journal.specs.Records.{Records, Damaged, records, records_from, is_whole, payload, payload_length, after_payload}
+use Rattle.prv_journal.specs.Records.{Damaged, records, records_from, is_whole, payload, payload_length, after_payload}
 use Rattle.prv_journal.specs.Ends.{after_all, Opens, EndsAt}
 use Rattle.prv_journal.proofs.RecordsRead.{opens-one, opens-more, all-damaged, records-long}
 

@@ -1,8 +1,8 @@
 -- What is read from the bytes of a journal.
-use Rattle.std.proofs.Common.{◌≡◌, ◌≢◌, ◌⊎◌, inl, inr, ⊎_elim, ℕ, zero, suc, ◌+◌, ◌<◌, ◌≤◌, ◌==◌, nat_le, nat_lt, ◌&&◌, Bool, true, false, if◌then◌else◌, List, [], ◌∷◌, ◌++◌, length, take, drop, refl, sym, ◌∙◌, ap, subst, arith, append_assoc, length-append}
+use Rattle.std.proofs.Common.{◌≡◌, ◌≢◌, ℕ, zero, suc, ◌+◌, ◌<◌, ◌≤◌, ◌==◌, nat_le, Bool, true, false, if◌then◌else◌, List, [], ◌∷◌, ◌++◌, length, take, drop, refl, sym, ◌∙◌, ap, arith, append_assoc, length-append}
 use Rattle.std.proofs.lemmas.Bool.Decides.{nat_tests}
 use Rattle.std.proofs.lemmas.List.{take_at, drop_at, drop-drop}
-use Rattle.prv_journal.specs.Records.{Records, Payloads, Damaged, records, records_from, is_whole, payload, payload_length, after_payload, followed_by}
+use Rattle.prv_journal.specs.Records.{Records, Payloads, Damaged, records, records_from, is_whole, payload, payload_length, after_payload}
 use Rattle.prv_journal.specs.Ends.{after_all, Opens, EndsAt}
 
 -- bytes that are skipped

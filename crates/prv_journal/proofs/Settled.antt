@@ -4,8 +4,8 @@ use Rattle.std.proofs.lemmas.Bool.Decides.{nat_tests}
 use Rattle.std.specs.Int.{w32, to_le_bytes}
 use Rattle.prv_disk.specs.Bytes.{overwritten, Torn}
 use Rattle.prv_disk.specs.Crashes.{Only}
-use Rattle.prv_journal.specs.Records.{Records, Payloads, records, records_from}
-use Rattle.prv_journal.specs.Ends.{EndsAt, IsSettled}
+use Rattle.prv_journal.specs.Records.{Payloads, records, records_from}
+use Rattle.prv_journal.specs.Ends.{IsSettled}
 use Rattle.prv_journal.specs.Journals.{Has}
 use Rattle.prv_journal.proofs.RecordsRead.{opens-none}
 use Rattle.prv_journal.proofs.RecordsWritten.{staged-file, staged-ends, open-gate}

@@ -1,7 +1,6 @@
 -- What is known of an open journal.
-use Rattle.std.specs.Prelude.{◌≡◌, ◌≢◌, ◌⊎◌, ℕ, ◌+◌, ◌<◌, Bool, List, [], ◌∷◌, ◌++◌, length, Result, Ok, Err, ⊤}
-use Rattle.prv_disk.specs.Crashes.{Only}
-use Rattle.prv_journal.specs.Records.{Records, Payloads, Damaged, records, records_from, after_payload, followed_by}
+use Rattle.std.specs.Prelude.{◌≡◌, ◌⊎◌, ℕ, Bool, List, [], ◌∷◌, ◌++◌, Result, Ok, Err, ⊤}
+use Rattle.prv_journal.specs.Records.{Records, Payloads, Damaged, records, followed_by}
 use Rattle.prv_journal.specs.declared.error.LoadError.{LoadError}
 use Rattle.prv_journal.specs.declared.error.LoadError.TheVariants as load
 

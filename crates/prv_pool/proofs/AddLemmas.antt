@@ -1,15 +1,15 @@
 -- What a list is that a term was added to.
-use Rattle.std.proofs.Common.{◌≡◌, ◌≢◌, ℤ, pos, ℕ, zero, suc, ◌+◌, ◌<◌, ◌≤◌, Bool, true, false, ◌||◌, List, [], ◌∷◌, ◌++◌, length, refl, sym, ap, ◌∙◌, subst, arith, append_assoc, append-nil, length-append, if◌then◌else◌}
+use Rattle.std.proofs.Common.{◌≡◌, ℕ, ◌+◌, ◌<◌, ◌≤◌, Bool, true, false, ◌||◌, List, [], ◌∷◌, ◌++◌, length, refl, sym, ap, ◌∙◌, subst, arith, append_assoc, append-nil, length-append, if◌then◌else◌}
 use Rattle.prv_model.specs.TermOrder.{same_term}
 use Rattle.prv_model.specs.declared.op.TermOp.{TermOp}
 use Rattle.prv_model.specs.declared.term.Term.{Term}
-use Rattle.prv_model.specs.declared.term.Term.TheVariants.{Param, Op, Pick, Num, rolls-Param, rolls-Op, rolls-Pick, rolls-Num}
+use Rattle.prv_model.specs.declared.term.Term.TheVariants.{Param, Op, Pick, Num, rolls-Op, rolls-Pick}
 use Rattle.prv_model.specs.declared.term.Term.TheOpen.{Term-F}
 use Rattle.prv_model.specs.declared.term.Term.TheFolds.{fold-Term, fold-roll-Term}
 use Rattle.prv_pool.specs.Tables.{has_term, add_term}
 use Rattle.prv_pool.specs.Copies.{Grown}
 use Rattle.prv_pool.proofs.Shapes.{add-Param, add-Op, add-Pick, add-Num}
-use Rattle.prv_pool.proofs.TableLemmas.{by-term, same-itself, same-not, has-append, has-more, add-there, then-is, else-is, IsClosed}
+use Rattle.prv_pool.proofs.TableLemmas.{by-term, same-itself, same-not, has-append, has-more, add-there, else-is, IsClosed}
 
 -- ---- a list that goes on from another
 

@@ -1,12 +1,12 @@
 -- A copy of one term: nodes wait, each for its operands, and the greatest waits longest.
-use Rattle.std.proofs.Common.{◌≡◌, ◌≢◌, ◌⊎◌, inl, inr, ◌↔◌, ℤ, pos, ℕ, zero, suc, ◌+◌, ◌*◌, ◌<◌, ◌≤◌, Bool, true, false, List, [], ◌∷◌, ◌++◌, length, set, get_or, map, All, take, drop, replicate, Option, Some, None, Result, Ok, Err, slice_get, refl, sym, ap, ◌∙◌, subst, arith, unwrap_or}
+use Rattle.std.proofs.Common.{◌≡◌, ◌≢◌, ◌⊎◌, inl, inr, ℕ, zero, suc, ◌+◌, ◌*◌, ◌<◌, ◌≤◌, List, [], ◌∷◌, ◌++◌, length, set, get_or, map, All, take, drop, replicate, Option, Some, None, Result, Ok, Err, slice_get, refl, sym, ap, ◌∙◌, subst, arith}
 use Rattle.std.specs.Prelude.{IsErrAnd, OnErr}
 use Rattle.std.proofs.Math.Seq.{take-append_seam}
 use Rattle.std.proofs.lemmas.Bool.{cases_eq}
 use Rattle.std.proofs.lemmas.List.{length-set, length-replicate, map-append, take_more, take-append-drop, get_or-set_same, get_or-set_other}
 use Rattle.std.proofs.lemmas.Option.{unwrap_or-slice_get}
 use Rattle.prv_model.specs.declared.term.Term.{Term}
-use Rattle.prv_pool.specs.Tables.{Table, Makes, has_term, add_term, add_terms, term_at}
+use Rattle.prv_pool.specs.Tables.{Table, Makes, add_term, add_terms, term_at}
 use Rattle.prv_pool.specs.Numbers.{number_at, Stands}
 use Rattle.prv_pool.specs.Copies.{Grown, Copies}
 use Rattle.prv_pool.specs.declared.error.PoolError.{PoolError}

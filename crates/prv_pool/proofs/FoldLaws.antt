@@ -1,26 +1,26 @@
 -- A folded term has the value of what it stands for, and is a term over the same parameters.
-use Rattle.std.proofs.Common.{◌≡◌, ℕ, zero, suc, ◌+◌, ◌*◌, ◌-◌, ◌/◌, ◌%◌, ◌^◌, ◌<◌, ◌≤◌, Bool, true, false, ◌&&◌, ◌||◌, not, List, [], ◌∷◌, Option, Some, None, ℤ, pos, negsuc, ◌+ℤ◌, ◌-ℤ◌, ◌*ℤ◌, All, if◌then◌else◌, refl, sym, ap, ◌∙◌, subst, arith, unwrap_or, int_lt, int_le, int_div, int_rem, nat_eq, IfSome, inl, inr, ◌⊎◌}
+use Rattle.std.proofs.Common.{◌≡◌, ℕ, zero, suc, ◌-◌, ◌^◌, ◌<◌, Bool, true, false, ◌&&◌, ◌||◌, not, List, [], Option, Some, None, ℤ, pos, negsuc, ◌+ℤ◌, ◌-ℤ◌, ◌*ℤ◌, All, if◌then◌else◌, refl, sym, ap, ◌∙◌, subst, arith, unwrap_or, int_lt, int_le, int_div, int_rem, IfSome, inl, inr, ◌⊎◌}
 use Rattle.std.specs.Option.{option_map, option_and_then}
-use Rattle.std.specs.Ordering.{int_eq, is_gt}
+use Rattle.std.specs.Ordering.{int_eq}
 use Rattle.std.specs.Cmp.{signed_Decides}
-use Rattle.std.specs.Int.{w32, cast_unsigned, cast_signed, int_wrap, int_shl, int_shr, int_bit_and, int_bit_or, int_bit_xor}
-use Rattle.std.specs.Int.Bits.{bit_and, bit_or, bit_xor}
+use Rattle.std.specs.Int.{w32, cast_unsigned, cast_signed, int_shl, int_shr, int_bit_and, int_bit_or, int_bit_xor}
+use Rattle.std.specs.Int.Bits.{bit_or}
 use Rattle.std.proofs.lemmas.Int.{ints, int_wrap_fits, to_z-of_z}
 use lib.Bits.{and_comm, or_comm, xor_comm, and_zero_r, or_zero_r, xor_zero_r, and_self, or_self, xor_self, and_mask, or_add_and}
 use lib.IntN.{*ℤ_comm}
-use Rattle.prv_model.specs.Words.{IsWord, is_word, is_zero, flag, wrap, amount, binary}
+use Rattle.prv_model.specs.Words.{IsWord, is_word, is_zero, flag, wrap, amount}
 use Rattle.prv_model.specs.Terms.{IsTerm, term_value, total, node_is_term}
-use Rattle.prv_model.specs.TermOrder.{term_cmp, same_term}
+use Rattle.prv_model.specs.TermOrder.{same_term}
 use Rattle.prv_model.specs.declared.op.TermOp.{TermOp}
 use Rattle.prv_model.specs.declared.op.TermOp.TheVariants.{Add, Sub, Mul, Div, Rem, Shl, Shr, And, Or, Xor, Lt, Le, Eq, Ne}
 use Rattle.prv_model.specs.declared.term.Term.{Term, roll-Term, map-Term, out-Term, roll-out-Term, fold-Term, fold-roll-Term}
-use Rattle.prv_model.specs.declared.term.Term.TheVariants.{Param, Op, Pick, Num, rolls-Param, rolls-Op, rolls-Pick, rolls-Num}
+use Rattle.prv_model.specs.declared.term.Term.TheVariants.{Op, Pick, Num, rolls-Op, rolls-Pick, rolls-Num}
 use Rattle.prv_model.specs.declared.term.Term.TheOpen.{Term-F}
 use Rattle.prv_model.specs.declared.term.Term.TheFolds.{ind-Term}
 use Rattle.prv_model.proofs.OrderLemmas.{same_term-same}
 use Rattle.prv_model.proofs.TermLemmas.{term_value-Op, term_value-Num, term_value-Pick}
 use Rattle.prv_model.proofs.WordLaws.{term_has_a_word, total-word, word-tested, tested-word}
-use Rattle.prv_pool.specs.Folding.{node_number, as_number, is_number, is_comparison, node_compares, is_truth_shaped, node_is_truth, compares, joins, only_if, first_of, on_numbers, exchanges, are_exchanged, is_neutral, decided, beside_neutral, beside_decided, twice, on_one_twice, are_opposite, on_truths, beside_zero, rules, in_order, folded_by, unequal, node_negation, negation, folded, truth, pick_rules, folded_pick}
+use Rattle.prv_pool.specs.Folding.{node_number, as_number, is_number, is_comparison, is_truth_shaped, node_is_truth, compares, joins, only_if, on_numbers, exchanges, are_exchanged, is_neutral, decided, beside_neutral, beside_decided, twice, on_one_twice, are_opposite, on_truths, beside_zero, in_order, folded_by, unequal, node_negation, negation, folded, truth, folded_pick}
 
 -- a term over n parameters that has this value on the input x
 pub record Means (n : ℕ) (x : List ℤ) (v : ℤ) (t : Term) : Type 0 where

@@ -1,18 +1,16 @@
 -- What nodes show of their terms.
-use Rattle.std.proofs.Common.{◌≡◌, ◌≢◌, ◌⊎◌, inl, inr, ℤ, pos, ℕ, zero, suc, ◌+◌, ◌<◌, ◌≤◌, ◌==◌, Bool, true, false, ◌||◌, ◌&&◌, List, [], ◌∷◌, ◌++◌, length, Option, Some, None, slice_get, refl, sym, ap, ◌∙◌, subst, arith, if◌then◌else◌}
+use Rattle.std.proofs.Common.{◌≡◌, ◌≢◌, ℕ, ◌<◌, ◌≤◌, ◌==◌, Bool, true, false, List, length, Some, slice_get, refl, sym, ap, ◌∙◌, arith, if◌then◌else◌}
 use Rattle.std.proofs.lemmas.Bool.{eqb-true, eqb-false}
 use Rattle.std.specs.declared.cmp.Ordering.{Ordering}
 use Rattle.std.specs.declared.cmp.Ordering.TheVariants.{Less, Equal, Greater}
-use Rattle.std.specs.Ordering.{ordering_then, nat_cmp, int_cmp}
-use Rattle.prv_model.specs.TermOrder.{term_cmp, node_cmp, same_term, op_rank}
+use Rattle.std.specs.Ordering.{ordering_then, nat_cmp}
+use Rattle.prv_model.specs.TermOrder.{term_cmp, same_term, op_rank}
 use Rattle.prv_model.proofs.OrderLemmas.{term_cmp-equal, term_cmp-out, then-Equal, nat_cmp-Equal, nat_cmp-same}
-use Rattle.prv_model.specs.declared.term.Term.{Term, out-Term}
-use Rattle.prv_model.specs.declared.term.Term.TheVariants.{Param, Op, Pick, Num}
-use Rattle.prv_model.specs.declared.term.Term.TheOpen.{Term-F}
+use Rattle.prv_model.specs.declared.term.Term.{Term}
 use Rattle.prv_pool.specs.Folding as Folding
 use Rattle.prv_pool.specs.Folding.{as_number, is_comparison}
-use Rattle.prv_pool.specs.Tables.{term_at, has_term, IsTable}
-use Rattle.prv_pool.specs.Nodes.{node_term, AreBelow, node_number, node_compares, node_rank}
+use Rattle.prv_pool.specs.Tables.{term_at}
+use Rattle.prv_pool.specs.Nodes.{node_term, AreBelow, node_number, node_compares}
 use Rattle.prv_pool.specs.Steps.{step_between, Decides}
 use Rattle.prv_pool.specs.declared.compare.Step.{Step}
 use Rattle.prv_pool.specs.declared.compare.Step.TheVariants.{Done, Operands}

@@ -1,13 +1,13 @@
 -- A folding gives folded terms, and a folded truth is the negation of its negation.
-use Rattle.std.proofs.Common.{◌≡◌, ◌≢◌, ◌⊎◌, inl, inr, ℤ, pos, negsuc, ℕ, zero, suc, Bool, true, false, not, ◌||◌, ◌&&◌, List, [], ◌∷◌, Option, Some, None, refl, sym, ap, ◌∙◌, subst, if◌then◌else◌, unwrap_or}
-use Rattle.std.specs.Prelude.{is_none, IfSome, nat_eq}
+use Rattle.std.proofs.Common.{◌≡◌, ◌≢◌, ℤ, pos, ℕ, Bool, true, false, not, ◌||◌, ◌&&◌, List, [], ◌∷◌, Option, Some, None, refl, sym, ap, ◌∙◌, subst, if◌then◌else◌, unwrap_or}
+use Rattle.std.specs.Prelude.{is_none, IfSome}
 use Rattle.std.specs.List.{list_all}
 use Rattle.std.specs.Option.{option_map, option_and_then}
 use Rattle.std.specs.declared.cmp.Ordering.{Ordering}
 use Rattle.std.specs.declared.cmp.Ordering.TheVariants.{Less, Equal, Greater}
 use Rattle.std.specs.Ordering.{int_eq, is_gt, ordering_reverse, ordering_then, nat_cmp}
 use Rattle.std.specs.Cmp.{signed_Decides}
-use Rattle.prv_model.specs.Words.{is_zero, flag, amount}
+use Rattle.prv_model.specs.Words.{is_zero, flag}
 use Rattle.prv_model.specs.Terms.{total}
 use Rattle.prv_model.specs.TermOrder.{term_cmp, same_term, op_rank}
 use Rattle.prv_model.proofs.OrderLemmas.{term_cmp_total, term_cmp-out, same_term-same}
@@ -23,8 +23,8 @@ use Rattle.prv_pool.specs.Nodes as Nodes
 use Rattle.prv_pool.specs.Nodes.{node_term}
 use Rattle.prv_pool.specs.declared.node.Node.{Node}
 use Rattle.prv_pool.specs.declared.node.Node.TheVariants as node
-use Rattle.prv_pool.proofs.Shapes.{out-Param, out-Op, out-Pick, out-Num, truth-Param, truth-Op, truth-Pick, truth-Num, folded-Param, folded-Op, folded-Pick, folded-Num}
-use Rattle.prv_pool.proofs.TableLemmas.{by-term, same-itself, same-not}
+use Rattle.prv_pool.proofs.Shapes.{out-Param, out-Op, out-Pick, out-Num, truth-Param, truth-Op, truth-Num, folded-Op, folded-Pick, folded-Num}
+use Rattle.prv_pool.proofs.TableLemmas.{by-term, same-not}
 
 -- an answer, if there is one, is folded
 abbrev IsFoldedIf : Option Term → Type 0

@@ -1,16 +1,15 @@
 -- Nodes as the keys of a map that keeps their order.
-use Rattle.std.proofs.Common.{◌≡◌, ◌≢◌, ◌↔◌, ℕ, zero, suc, ◌+◌, ◌<◌, ◌≤◌, Bool, true, false, ◌||◌, List, [], ◌∷◌, ◌++◌, length, Option, Some, None, slice_get, get_or, position, refl, sym, ap, ◌∙◌, subst, arith, rules}
+use Rattle.std.proofs.Common.{◌≡◌, ◌≢◌, ℕ, zero, suc, Bool, true, false, List, [], ◌∷◌, ◌++◌, Option, Some, None, slice_get, get_or, position, refl, sym, ap, ◌∙◌, rules}
 use Rattle.std.specs.List.{IsDistinct, AllByRecursion}
 use Rattle.std.specs.Map.{keys_of}
 use Rattle.std.proofs.lemmas.List.Quantifiers.{position-Some}
 use Rattle.std.proofs.lemmas.Map.Keys.{IsDistinct-head, IsDistinct-tail}
 use Rattle.std.proofs.lemmas.Option.{slice_get-get_or}
 use Rattle.indexmap.proofs.MapLemmas.{Missing-position, insert_entry-absent}
-use Rattle.std.specs.Option.{option_map, IfSome, IfNone}
-use Rattle.indexmap.specs.IndexMap.{IndexMap, insert_entry, get, keys}
+use Rattle.std.specs.Option.{IfSome, IfNone}
+use Rattle.indexmap.specs.IndexMap.{insert_entry}
 use Rattle.prv_pool.specs.Nodes.{node_at, AreDistinct}
 use Rattle.prv_pool.specs.declared.node.Node.{Node}
-use Rattle.prv_pool.specs.declared.node.Node.TheVariants as node
 use Rattle.prv_pool.specs.contracts.node.NodePartialEq.TheImpl as node_eq
 
 -- no key passes a test

@@ -1,8 +1,7 @@
 -- What a call that makes a term does to the table, by what adding one node does.
-use Rattle.std.proofs.Common.{◌≡◌, ◌≢◌, ◌↔◌, ℤ, pos, ℕ, zero, suc, ◌+◌, ◌-◌, ◌<◌, ◌≤◌, Bool, true, false, ◌||◌, ◌&&◌, List, [], ◌∷◌, ◌++◌, length, take, Option, Some, None, Result, Ok, Err, slice_get, refl, sym, ap, ◌∙◌, subst, arith, length-append}
+use Rattle.std.proofs.Common.{◌≡◌, ◌↔◌, pos, ℕ, ◌+◌, ◌-◌, ◌<◌, ◌≤◌, Bool, true, false, ◌||◌, List, [], ◌∷◌, ◌++◌, length, take, Some, Result, Ok, Err, slice_get, refl, sym, ap, ◌∙◌, subst, arith, length-append}
 use Rattle.std.proofs.Math.Seq.{take-append_seam}
 use Rattle.std.specs.Prelude.{OnOk, OnErr, IfOk}
-use Rattle.prv_model.specs.TermOrder.{same_term}
 use Rattle.prv_model.specs.declared.op.TermOp.{TermOp}
 use Rattle.prv_model.specs.declared.term.Term.{Term, out-Term}
 use Rattle.prv_model.specs.declared.term.Term.TheVariants.{Op, Num}
@@ -13,8 +12,8 @@ use Rattle.prv_pool.specs.declared.error.PoolError.TheVariants.{Wide, Memory}
 use Rattle.prv_pool.specs.declared.node.Node.{Node}
 use Rattle.prv_pool.specs.declared.node.Node.TheVariants as node
 use Rattle.prv_pool.proofs.Shapes.{out-Op, out-Num}
-use Rattle.prv_pool.proofs.NodeLemmas.{get-append, get-end, term_at-append, term_at-get, term_at-some}
-use Rattle.prv_pool.proofs.TableLemmas.{has-at, has-append, has-term_at, same-not, add-there, add-node, add-with-zero, IsClosed}
+use Rattle.prv_pool.proofs.NodeLemmas.{get-end, term_at-append, term_at-get, term_at-some}
+use Rattle.prv_pool.proofs.TableLemmas.{has-at, has-append, same-not, add-there, add-node, add-with-zero, IsClosed}
 
 -- a term that is there
 pub makes-there : (t : Term) (table : Table) (n : ℕ) → length table.terms ≤ table.max_nodes → slice_get table.terms n ≡ Some t → Makes t table table (Ok n)

@@ -1,11 +1,10 @@
 -- The terms that nodes stand for.
-use Rattle.std.proofs.Common.{◌≡◌, ℤ, pos, ℕ, zero, suc, ◌+◌, ◌<◌, ◌≤◌, Bool, true, false, List, [], ◌∷◌, ◌++◌, length, Option, Some, None, slice_get, refl, sym, ap, ◌∙◌, subst, arith, append_assoc, append-nil, length-append, unwrap_or}
+use Rattle.std.proofs.Common.{◌≡◌, pos, ℕ, zero, suc, ◌+◌, ◌<◌, ◌≤◌, Bool, false, List, [], ◌∷◌, ◌++◌, length, Option, Some, None, slice_get, refl, sym, ap, ◌∙◌, subst, arith, append_assoc, append-nil, length-append, unwrap_or}
 use Rattle.std.specs.Option.{option_map}
 use Rattle.prv_model.specs.declared.term.Term.{Term, out-Term}
-use Rattle.prv_model.specs.declared.term.Term.TheVariants.{Param, Op, Pick, Num}
-use Rattle.prv_model.specs.declared.term.Term.TheOpen.{Term-F}
-use Rattle.prv_pool.specs.Tables.{term_at, has_term}
-use Rattle.prv_pool.specs.Nodes.{node_term, AreBelow, terms_from, terms_of, node_at, truth_at, IsPool}
+use Rattle.prv_model.specs.declared.term.Term.TheVariants.{Op, Pick, Num}
+use Rattle.prv_pool.specs.Tables.{term_at}
+use Rattle.prv_pool.specs.Nodes.{node_term, AreBelow, terms_from, terms_of, node_at, IsPool}
 use Rattle.prv_pool.specs.declared.node.Node.{Node}
 use Rattle.prv_pool.specs.declared.node.Node.TheVariants as node
 use Rattle.prv_pool.proofs.Shapes.{out-Param, out-Op, out-Pick, out-Num}

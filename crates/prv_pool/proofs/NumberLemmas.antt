@@ -1,10 +1,10 @@
 -- Nodes with the numbers that their operands have in another table.
-use Rattle.std.proofs.Common.{◌≡◌, ◌≢◌, ◌↔◌, ℤ, pos, ℕ, zero, suc, ◌+◌, ◌<◌, ◌≤◌, ◌==◌, Bool, true, false, not, IsTrue, get_or, List, [], ◌∷◌, ◌++◌, length, map, All, Option, Some, None, slice_get, refl, sym, ap, ◌∙◌, subst, arith, unwrap_or, below_more}
+use Rattle.std.proofs.Common.{◌≡◌, ◌↔◌, ℕ, zero, suc, ◌+◌, ◌<◌, ◌==◌, Bool, true, false, not, IsTrue, get_or, List, [], ◌∷◌, ◌++◌, length, map, All, Option, Some, None, slice_get, refl, sym, ap, ◌∙◌, subst, arith, unwrap_or, below_more}
 use Rattle.std.specs.Option.{option_eq}
 use Rattle.std.proofs.lemmas.Bool.{eqb-false}
 use Rattle.prv_model.specs.declared.op.TermOp.{TermOp}
 use Rattle.prv_model.specs.declared.term.Term.{Term}
-use Rattle.prv_model.specs.declared.term.Term.TheVariants.{Param, Op, Pick, Num}
+use Rattle.prv_model.specs.declared.term.Term.TheVariants.{Op, Pick}
 use Rattle.prv_pool.specs.Tables.{Table, IsTable, has_term, add_term, term_at}
 use Rattle.prv_pool.specs.Nodes.{node_term, AreBelow}
 use Rattle.prv_pool.specs.Numbers.{number_at, IsNumber, AreNumbers, Stands, Renumbers, with_number, renumbered}

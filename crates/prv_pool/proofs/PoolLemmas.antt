@@ -1,5 +1,5 @@
 -- What a pool keeps, as its nodes grow and are cut.
-use Rattle.std.proofs.Common.{◌≡◌, ◌≢◌, ◌⊎◌, inl, inr, ℤ, pos, ℕ, zero, suc, ◌+◌, ◌<◌, ◌≤◌, Bool, true, false, ◌||◌, ◌&&◌, List, [], ◌∷◌, ◌++◌, length, take, Option, Some, None, slice_get, refl, sym, ap, ◌∙◌, subst, arith, append_assoc, append-nil, length-append, Result, Ok, Err, unwrap_or, if◌then◌else◌, min, length-take}
+use Rattle.std.proofs.Common.{◌≡◌, ◌≢◌, ◌⊎◌, inl, inr, pos, ℕ, zero, suc, ◌+◌, ◌<◌, Bool, true, false, ◌||◌, ◌&&◌, List, [], ◌∷◌, ◌++◌, length, take, Option, Some, slice_get, refl, sym, ap, ◌∙◌, subst, arith, append-nil, length-append, Result, Ok, Err, unwrap_or, length-take}
 use Rattle.std.proofs.lemmas.Bool.{cases_lt}
 use Rattle.std.proofs.Math.Seq.{take-append-add}
 use Rattle.std.specs.List.{AllByRecursion}
@@ -7,18 +7,16 @@ use Rattle.std.specs.Option.{option_map}
 use Rattle.std.specs.Prelude.{IsErrAnd}
 use Rattle.prv_pool.specs.declared.error.PoolError.{PoolError}
 use Rattle.prv_pool.specs.declared.error.PoolError.TheVariants.{Wide, Memory}
-use Rattle.std.specs.Ordering.{int_eq}
-use Rattle.prv_model.specs.declared.op.TermOp.{TermOp}
 use Rattle.prv_model.specs.declared.term.Term.{Term, out-Term}
-use Rattle.prv_model.specs.declared.term.Term.TheVariants.{Param, Op, Pick, Num}
+use Rattle.prv_model.specs.declared.term.Term.TheVariants.{Num}
 use Rattle.prv_model.specs.declared.term.Term.TheOpen.{Term-F}
 use Rattle.prv_pool.specs.Folding.{is_truth_shaped, is_folded, compares, joins}
-use Rattle.prv_pool.specs.Tables.{Table, term_at, has_term, node_operands, IsTable}
+use Rattle.prv_pool.specs.Tables.{term_at, has_term, node_operands, IsTable}
 use Rattle.prv_pool.specs.Nodes.{node_term, AreBelow, terms_from, terms_of, node_at, truth_at, is_truth_of, AreDistinct, IsPool, table_of}
 use Rattle.prv_pool.specs.declared.node.Node.{Node}
 use Rattle.prv_pool.specs.declared.node.Node.TheVariants as node
 use Rattle.prv_pool.proofs.Shapes.{out-Param, out-Op, out-Pick, out-Num, truth-Param, truth-Op, truth-Pick, truth-Num}
-use Rattle.prv_pool.proofs.NodeLemmas.{get-append, get-end, get-within, get-some, term_at-append, term_at-some, term_at-get, node_at-some, node_at-within, node-within, node-below, below-more, length-terms_of, later, terms_from-later, terms_of-push, terms-apart, term-of-node_at, node-of-term}
+use Rattle.prv_pool.proofs.NodeLemmas.{get-end, get-within, get-some, term_at-append, term_at-some, term_at-get, node_at-some, node_at-within, node-within, node-below, below-more, length-terms_of, later, terms_from-later, terms_of-push, terms-apart, term-of-node_at, node-of-term}
 use Rattle.prv_model.specs.TermOrder.{same_term}
 use Rattle.prv_pool.proofs.KeyLemmas.{same_node, same_node-true, same_node-itself}
 use Rattle.prv_pool.proofs.TableLemmas.{has-at, has-not, same-itself, same-not}

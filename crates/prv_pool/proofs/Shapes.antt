@@ -1,14 +1,14 @@
 -- What the definitions on terms say, variant by variant.
-use Rattle.std.proofs.Common.{◌≡◌, ℕ, Bool, true, false, ◌&&◌, ◌||◌, List, [], ◌∷◌, ◌++◌, ℤ, pos, Option, Some, None, refl, sym, ap, ◌∙◌, if◌then◌else◌}
+use Rattle.std.proofs.Common.{◌≡◌, ℕ, Bool, true, false, ◌&&◌, ◌||◌, List, [], ◌∷◌, ◌++◌, ℤ, pos, sym, ap, ◌∙◌, if◌then◌else◌}
 use Rattle.std.specs.Ordering.{int_eq}
 use Rattle.std.specs.Prelude.{is_none}
 use Rattle.std.specs.List.{list_all}
 use Rattle.prv_model.specs.declared.op.TermOp.{TermOp}
-use Rattle.prv_model.specs.declared.term.Term.{Term, roll-Term, map-Term, out-Term, out-roll-Term, roll-out-Term}
+use Rattle.prv_model.specs.declared.term.Term.{Term, out-Term, out-roll-Term}
 use Rattle.prv_model.specs.declared.term.Term.TheVariants.{Param, Op, Pick, Num, rolls-Param, rolls-Op, rolls-Pick, rolls-Num}
 use Rattle.prv_model.specs.declared.term.Term.TheOpen.{Term-F}
-use Rattle.prv_model.specs.declared.term.Term.TheFolds.{fold-Term, fold-roll-Term, para-Term, para-roll-Term}
-use Rattle.prv_pool.specs.Folding.{as_number, is_comparison, is_truth_shaped, node_is_truth, compares, joins, is_settled, pick_rules, is_folded, node_is_folded}
+use Rattle.prv_model.specs.declared.term.Term.TheFolds.{fold-roll-Term, para-roll-Term}
+use Rattle.prv_pool.specs.Folding.{is_truth_shaped, node_is_truth, compares, joins, is_settled, pick_rules, is_folded, node_is_folded}
 use Rattle.prv_pool.specs.Tables.{has_term, add_term, node_added}
 
 -- ---- nodes of terms

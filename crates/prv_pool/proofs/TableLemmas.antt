@@ -1,5 +1,5 @@
 -- Lists that have a term, and by what they grow.
-use Rattle.std.proofs.Common.{◌≡◌, ◌≢◌, ◌⊎◌, inl, inr, ℤ, pos, ℕ, zero, suc, ◌+◌, ◌<◌, ◌≤◌, Bool, true, false, ◌||◌, List, [], ◌∷◌, ◌++◌, length, take, drop, Option, Some, None, slice_get, refl, sym, ap, ◌∙◌, subst, arith, append_assoc, append-nil, length-append, unwrap_or, if◌then◌else◌}
+use Rattle.std.proofs.Common.{◌≡◌, ◌≢◌, ℤ, pos, ℕ, zero, suc, ◌<◌, Bool, true, false, ◌||◌, List, [], ◌∷◌, ◌++◌, length, take, drop, Some, slice_get, refl, sym, ap, ◌∙◌, subst, arith, if◌then◌else◌}
 use Rattle.prv_model.specs.TermOrder.{same_term}
 use Rattle.prv_model.proofs.OrderLemmas.{same_term-same}
 use Rattle.prv_model.specs.declared.op.TermOp.{TermOp}
@@ -9,12 +9,12 @@ use Rattle.prv_model.specs.declared.term.Term.TheOpen.{Term-F}
 use Rattle.prv_model.specs.declared.term.Term.TheFolds.{ind-Term}
 use Rattle.std.proofs.lemmas.List.{take-append-drop}
 use Rattle.std.specs.List.{AllByRecursion}
-use Rattle.prv_pool.specs.Tables.{Table, IsTable, node_operands, term_at, has_term, add_term, add_terms}
+use Rattle.prv_pool.specs.Tables.{Table, IsTable, node_operands, term_at, has_term, add_term}
 use Rattle.prv_pool.specs.Nodes.{node_term, AreBelow, terms_of, node_at, IsPool}
 use Rattle.prv_pool.specs.declared.node.Node.{Node}
 use Rattle.prv_pool.specs.declared.node.Node.TheVariants as node
 use Rattle.prv_pool.proofs.Shapes.{out-Param, out-Op, out-Pick, out-Num, add-Param, add-Op, add-Pick, add-Num}
-use Rattle.prv_pool.proofs.NodeLemmas.{get-append, get-end, get-within, term_at-get, term_at-some, node-of-term, term-of-node_at, node-within, node-below, below-more, length-terms_of}
+use Rattle.prv_pool.proofs.NodeLemmas.{get-within, term_at-get, term_at-some, term-of-node_at, node-within, node-below, length-terms_of}
 
 -- ---- induction on terms
 

@@ -1,5 +1,5 @@
 -- The values of a table's nodes, one after the other.
-use Rattle.std.proofs.Common.{◌≡◌, ◌≢◌, ℤ, pos, ℕ, zero, suc, ◌+◌, ◌<◌, Bool, ◌&&◌, not, Some, List, [], ◌∷◌, length, map, All, set, get_or, refl, sym, ap, ◌∙◌, arith, unwrap_or, slice_get, if◌then◌else◌, below_more}
+use Rattle.std.proofs.Common.{◌≡◌, ◌≢◌, ℤ, pos, ℕ, suc, ◌+◌, ◌<◌, Bool, ◌&&◌, not, Some, List, [], ◌∷◌, length, map, All, set, refl, sym, ap, ◌∙◌, arith, slice_get, if◌then◌else◌, below_more}
 use Rattle.std.specs.List.{list_all}
 use Rattle.std.proofs.lemmas.List.{get_or-set_same, get_or-set_other}
 use Rattle.std.proofs.lemmas.Option.{unwrap_or-slice_get}

@@ -1,5 +1,5 @@
 -- What a copy of terms does to the table that it is made in.
-use Rattle.std.specs.Prelude.{◌≡◌, ℕ, ◌<◌, List, [], ◌++◌, length, Some, Result, Err, IfOk, OnOk, slice_get}
+use Rattle.std.specs.Prelude.{◌≡◌, ℕ, ◌<◌, List, ◌++◌, length, Some, Result, Err, IfOk, OnOk, slice_get}
 use Rattle.prv_model.specs.declared.term.Term.{Term}
 use Rattle.prv_pool.specs.Tables.{Table, add_term}
 use Rattle.prv_pool.specs.declared.error.PoolError.{PoolError}

@@ -1,6 +1,6 @@
 -- The folded term of an operator on two terms, of a choice, of a negation and of a truth.
 -- The first rule that applies gives it. The rules stand in this order: two numbers, exchanged operands, a number behind, an operand twice, truths, and 0 behind.
-use Rattle.std.specs.Prelude.{ℕ, nat_eq, Bool, true, false, ◌&&◌, ◌||◌, List, [], ◌∷◌, ℤ, pos, negsuc, zero, Option, Some, None, not, is_none, if◌then◌else◌, unwrap_or}
+use Rattle.std.specs.Prelude.{nat_eq, Bool, true, false, ◌&&◌, ◌||◌, List, [], ◌∷◌, ℤ, pos, negsuc, Option, Some, None, not, is_none, if◌then◌else◌, unwrap_or}
 use Rattle.std.specs.List.{list_all}
 use Rattle.std.specs.Option.{option_map, option_and_then}
 use Rattle.std.specs.Ordering.{int_eq, is_gt}

@@ -1,5 +1,5 @@
 -- What a folding answers, before its node is made.
-use Rattle.std.specs.Prelude.{ℕ, ◌<◌, List, ℤ, pos, Option, Some, None}
+use Rattle.std.specs.Prelude.{ℕ, ◌<◌, List, pos, Option, Some, None}
 use Rattle.prv_model.specs.declared.term.Term.{Term}
 use Rattle.prv_model.specs.declared.term.Term.TheVariants.{Op, Num}
 use Rattle.prv_pool.specs.Tables.{term_at}

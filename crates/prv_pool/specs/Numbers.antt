@@ -1,5 +1,5 @@
 -- The nodes of one table by their numbers in another.
-use Rattle.std.specs.Prelude.{◌≡◌, ℕ, ◌<◌, true, false, List, length, ℤ, Option, Some, None, unwrap_or, slice_get}
+use Rattle.std.specs.Prelude.{◌≡◌, ℕ, ◌<◌, true, false, List, length, Option, Some, None, unwrap_or, slice_get}
 use Rattle.prv_model.specs.declared.term.Term.{Term}
 use Rattle.prv_pool.specs.Tables.{has_term, add_term, term_at}
 use Rattle.prv_pool.specs.Nodes.{node_term, AreBelow}

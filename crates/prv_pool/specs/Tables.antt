@@ -1,5 +1,5 @@
 -- A table of terms: which term a number stands for, and by which terms a call makes the table grow.
-use Rattle.std.specs.Prelude.{refl, ◌≡◌, ◌↔◌, ℕ, ◌<◌, ◌≤◌, Bool, true, List, [], ◌∷◌, ◌++◌, length, ℤ, pos, Option, Some, Result, Err, IfOk, OnOk, OnErr, if◌then◌else◌, unwrap_or, slice_get, take, fold, map, All}
+use Rattle.std.specs.Prelude.{refl, ◌≡◌, ◌↔◌, ℕ, ◌<◌, ◌≤◌, Bool, true, List, [], ◌∷◌, ◌++◌, length, pos, Some, Result, Err, IfOk, OnOk, OnErr, if◌then◌else◌, unwrap_or, slice_get, take, fold, map, All}
 use Rattle.std.specs.List.{list_any, AllByRecursion}
 use Rattle.std.specs.Coded.{Coded, code_by, coded×, coded_ℕ, coded_list}
 use Rattle.prv_model.specs.contracts.term.Term as term_row

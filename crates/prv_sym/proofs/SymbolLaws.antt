@@ -1,6 +1,6 @@
 -- What the symbol of an expression says on an input: its safety is 1 exactly where the expression has a value in the
 -- state of the variables' terms there, and its term has that value.
-use Rattle.std.proofs.Common.{◌≡◌, ℕ, zero, suc, ◌<◌, Bool, true, false, ◌&&◌, ◌||◌, not, List, [], ◌∷◌, length, Option, Some, None, ℤ, pos, negsuc, All, if◌then◌else◌, refl, sym, ap, ◌∙◌, subst, arith, slice_get, unwrap_or, map, nat_lt, ◌-ℤ◌, neg_ℤ, inl, inr, int_div, int_rem, ◌+◌, ◌-◌, ◌^◌, ◌%◌, ◌≤◌, ◌⊎◌}
+use Rattle.std.proofs.Common.{◌≡◌, ℕ, zero, suc, ◌<◌, Bool, true, false, ◌&&◌, ◌||◌, not, List, [], ◌∷◌, length, Option, Some, None, ℤ, pos, negsuc, All, if◌then◌else◌, refl, sym, ap, ◌∙◌, subst, arith, slice_get, unwrap_or, nat_lt, ◌-ℤ◌, neg_ℤ, inl, inr, int_div, int_rem, ◌+◌, ◌-◌, ◌^◌, ◌%◌, ◌≤◌, ◌⊎◌}
 use Rattle.std.specs.Option.{option_map, option_and_then}
 use Rattle.std.specs.Ordering.{int_eq}
 use Rattle.std.specs.Int.{w32, int_bit_xor, int_bit_not, bit_not, cast_unsigned, cast_signed}

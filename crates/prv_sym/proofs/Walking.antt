@@ -1,5 +1,5 @@
 -- The flat walk along a run's evaluations has what the run has as a structure.
-use Rattle.std.proofs.Common.{◌≡◌, ℕ, ◌+◌, ◌<◌, Bool, true, false, List, [], ◌∷◌, ◌++◌, length, map, ℤ, pos, Option, Some, None, Ok, Err, refl, sym, ap, ◌∙◌, subst, append_assoc, slice_set, unwrap_or, ◌-◌}
+use Rattle.std.proofs.Common.{◌≡◌, ℕ, ◌<◌, Bool, true, false, List, [], ◌∷◌, ◌++◌, length, map, ℤ, pos, Option, Some, None, Ok, Err, refl, sym, ap, ◌∙◌, subst, append_assoc, slice_set, unwrap_or}
 use Rattle.std.proofs.lemmas.List.{append-nil, map-append}
 use Rattle.std.proofs.lemmas.Option.{slice_get-map}
 use Rattle.std.specs.Option.{option_map}
@@ -18,7 +18,6 @@ use Rattle.prv_pool.specs.declared.error.PoolError.TheVariants.{Memory}
 use Rattle.prv_sym.specs.declared.evaluations.Walk.{Walk}
 use Rattle.prv_sym.specs.declared.nodes.Nodes.{Nodes}
 use Rattle.prv_sym.specs.declared.nodes.Slot.{Slot}
-use Rattle.prv_sym.specs.declared.nodes.Slot.TheVariants as Slot
 use Rattle.prv_sym.specs.Calls.{Names, StandsFor, AreSlots, AllStand, terms_of}
 use Rattle.prv_sym.specs.Named.{named, run_named, run_symbols}
 use Rattle.prv_sym.specs.Symbols.{symbol, after}

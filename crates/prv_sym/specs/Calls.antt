@@ -1,12 +1,11 @@
 -- What a call that names terms leaves of the table, and which nodes stand for symbols.
-use Rattle.std.specs.Prelude.{◌≡◌, ℕ, ◌<◌, List, [], ◌∷◌, ◌++◌, length, Result, Err, OnOk, Option, Some, slice_get, unwrap_or, map, pos}
+use Rattle.std.specs.Prelude.{◌≡◌, ℕ, ◌<◌, List, [], ◌∷◌, ◌++◌, length, Result, Err, OnOk, Some, slice_get, unwrap_or, map, pos}
 use Rattle.prv_model.specs.declared.term.Term.{Term}
 use Rattle.prv_model.specs.declared.term.Term.TheVariants.{Param, Num}
 use Rattle.prv_pool.specs.Tables.{Table, add_terms, term_at}
 use Rattle.prv_pool.specs.declared.error.PoolError.{PoolError}
 use Rattle.prv_sym.specs.declared.nodes.Nodes.{Nodes}
 use Rattle.prv_sym.specs.declared.nodes.Slot.{Slot}
-use Rattle.prv_sym.specs.declared.nodes.Slot.TheVariants as Slot
 use Rattle.prv_sym.specs.Symbols.{Symbol}
 use Rattle.prv_pool.specs.declared.error.PoolError.TheVariants.{Wide}
 

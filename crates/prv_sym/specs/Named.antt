@@ -1,6 +1,6 @@
 -- Which terms are named for the symbol of an expression, and along a run, in order: of each subexpression its term and its safety, and each folded term on the way to them.
 -- A table that had all of them has grown by these and their subterms.
-use Rattle.std.specs.Prelude.{ℕ, List, [], ◌∷◌, ◌++◌, ℤ, pos, negsuc, Option, unwrap_or, slice_get}
+use Rattle.std.specs.Prelude.{List, [], ◌∷◌, ◌++◌, pos, negsuc, unwrap_or, slice_get}
 use Rattle.prv_model.specs.declared.op.UnOp.{UnOp}
 use Rattle.prv_model.specs.declared.op.UnOp.TheVariants.{Neg, Not, Flip}
 use Rattle.prv_model.specs.declared.op.TermOp.{TermOp}
@@ -12,7 +12,7 @@ use Rattle.prv_model.specs.declared.term.Term.{Term}
 use Rattle.prv_model.specs.declared.term.Term.TheVariants.{Num}
 use Rattle.prv_pool.specs.Folding.{folded, folded_pick, negation, truth as truth_of}
 use Rattle.prv_run.specs.Runs.{Run}
-use Rattle.prv_sym.specs.Symbols.{Symbol, symbol, unary_term, class_of, both_safe, pick_safe, after}
+use Rattle.prv_sym.specs.Symbols.{Symbol, symbol, unary_term, class_of, both_safe, after}
 use Rattle.prv_sym.specs.declared.operators.Class.{Class}
 use Rattle.prv_sym.specs.declared.operators.Class.TheVariants as c
 

@@ -1,5 +1,5 @@
 -- The term of an expression and the term of its safety, over the terms that the variables have, and these along a run.
-use Rattle.std.specs.Prelude.{ℕ, zero, suc, ◌-◌, List, [], ◌∷◌, ◌++◌, length, Option, Some, None, ℤ, pos, negsuc, replicate, unwrap_or, slice_get, slice_set}
+use Rattle.std.specs.Prelude.{ℕ, zero, suc, ◌-◌, List, [], ◌∷◌, ◌++◌, length, Option, Some, ℤ, pos, negsuc, replicate, unwrap_or, slice_get, slice_set}
 use Rattle.prv_model.specs.declared.op.UnOp.{UnOp}
 use Rattle.prv_model.specs.declared.op.UnOp.TheVariants.{Neg, Not, Flip}
 use Rattle.prv_model.specs.declared.op.BinOp.{BinOp}

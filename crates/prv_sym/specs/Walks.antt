@@ -1,6 +1,5 @@
 -- The flat walk along the evaluations of a run, and where it stands.
-use Rattle.std.specs.Prelude.{◌≡◌, ℕ, Bool, true, false, List, [], ◌∷◌, ◌++◌, Option, Some, None, map, fold, unwrap_or, slice_get, slice_set}
-use Rattle.std.specs.Option.{option_map}
+use Rattle.std.specs.Prelude.{◌≡◌, ℕ, Bool, true, List, [], ◌∷◌, ◌++◌, Option, Some, None, map, fold, unwrap_or, slice_get, slice_set}
 use Rattle.prv_model.specs.declared.expr.Expr.{Expr}
 use Rattle.prv_model.specs.declared.stmt.Stmt.{Stmt}
 use Rattle.prv_model.specs.declared.stmt.Stmt.TheOpen.{Stmt-F}
@@ -11,7 +10,6 @@ use Rattle.prv_pool.specs.Tables.{Table, add_terms}
 use Rattle.prv_sym.specs.declared.statements.Evaluation.{Evaluation}
 use Rattle.prv_sym.specs.declared.evaluations.Walk.{Walk}
 use Rattle.prv_sym.specs.declared.nodes.Slot.{Slot}
-use Rattle.prv_sym.specs.declared.nodes.Slot.TheVariants as Slot
 use Rattle.prv_sym.specs.Calls.{AreSlots, AllStand, terms_of}
 use Rattle.prv_sym.specs.Named.{named}
 use Rattle.prv_sym.specs.Symbols.{Symbol, symbol}

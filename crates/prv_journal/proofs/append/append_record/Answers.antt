@@ -1,11 +1,10 @@
-use Rattle.std.proofs.Common.{◌≡◌, inl, List, ℕ, ◌+◌, ◌≤◌, [], ◌∷◌, ◌++◌, length, refl, ◌∙◌, sym, ap, subst, arith, rules}
-use Rattle.std.specs.Int.{w32, to_le_bytes}
+use Rattle.std.proofs.Common.{◌≡◌, inl, refl, ◌∙◌, sym, subst, arith, rules}
 use Rattle.prv_disk.specs.Crashes.{AddsOnly}
 use Rattle.prv_journal.specs.Records.{Payloads}
 use Rattle.prv_journal.specs.Ends.{IsSettled}
 use Rattle.prv_journal.specs.Journals.{Has, HasOrWith}
 use Rattle.prv_journal.proofs.Moments.{adds-none, adds-then, adds-weaker}
-use Rattle.prv_journal.proofs.RecordsWritten.{Staged, staged-file, staged-ends, stage-left, gate-left, ends-room}
+use Rattle.prv_journal.proofs.RecordsWritten.{staged-file, staged-ends, stage-left, gate-left, ends-room}
 use Rattle.prv_journal.proofs.Settled.{settled-staged, settled-opened}
 use Rattle.prv_journal.proofs.append.append_record.Goals as goal
 

@@ -1,6 +1,5 @@
 use Rattle.std.proofs.Common.{List, ℕ, length, subst}
 use Rattle.prv_disk.specs.Bytes.{Torn}
-use Rattle.prv_disk.specs.Crashes.{AddsOnly}
 use Rattle.prv_journal.proofs.Moments.{adds-one, adds-then}
 use Rattle.prv_journal.proofs.append.write_lasting.Goals as goal
 

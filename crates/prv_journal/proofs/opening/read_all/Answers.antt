@@ -1,4 +1,3 @@
-use Rattle.std.proofs.Common.{◌≡◌, List, ℕ, refl, ◌∙◌, sym, ap, subst, arith}
 use Rattle.prv_journal.proofs.Moments.{adds-one, adds-nothing, adds-still}
 use Rattle.prv_journal.proofs.opening.read_all.Goals as goal
 

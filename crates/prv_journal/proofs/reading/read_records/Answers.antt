@@ -1,7 +1,7 @@
-use Rattle.std.proofs.Common.{◌≡◌, ℕ, ◌+◌, ◌-◌, ◌<◌, ◌≤◌, false, List, [], ◌∷◌, ◌++◌, length, take, drop, map, refl, sym, ◌∙◌, ap, subst, arith, rules, length-append, Vec, Global}
+use Rattle.std.proofs.Common.{◌≡◌, ℕ, ◌+◌, false, List, [], ◌∷◌, ◌++◌, length, take, drop, map, sym, ◌∙◌, ap, subst, arith, rules, length-append, Vec, Global}
 use Rattle.std.proofs.lemmas.List.{map-append}
 use Rattle.prv_journal.specs.Records.{Damaged, is_whole}
-use Rattle.prv_journal.specs.Ends.{Opens, EndsAt}
+use Rattle.prv_journal.specs.Ends.{Opens}
 use Rattle.prv_journal.proofs.RecordsNext.{Whole, to-end, whole-split, read-within, read-opens, read-damaged, read-ends}
 use Rattle.prv_journal.proofs.reading.read_records.Goals as goal
 

@@ -1,4 +1,4 @@
-use Rattle.std.proofs.Common.{◌≡◌, ◌+◌, ◌*◌, ◌-◌, ◌<◌, ◌≤◌, length, take, map}
+use Rattle.std.proofs.Common.{◌*◌, ◌-◌, ◌<◌, ◌≤◌, length, take, map}
 use Rattle.prv_journal.specs.Ends.{Opens}
 use Rattle.prv_journal.proofs.reading.read_records.Given as goal
 

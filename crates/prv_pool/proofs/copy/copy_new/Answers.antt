@@ -1,4 +1,4 @@
-use Rattle.std.proofs.Common.{arith, ◌∙◌, ◌<◌, length, sym, ap, List, ℕ, Option}
+use Rattle.std.proofs.Common.{arith, ◌∙◌, sym, ap, List, ℕ, Option}
 use Rattle.prv_pool.specs.Numbers.{number_at}
 use Rattle.prv_pool.proofs.CopyLemmas.{last-below-all, ready-smaller, ready-copying, lacks-smaller, lacks-copying, copies-refused}
 use Rattle.prv_pool.proofs.copy.copy_new.Goals as goal

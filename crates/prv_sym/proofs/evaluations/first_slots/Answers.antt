@@ -4,7 +4,6 @@ use lib.ListN.{replicate, replicate-append-replicate}
 use Rattle.prv_model.specs.declared.term.Term.{Term}
 use Rattle.prv_model.specs.declared.term.Term.TheVariants.{Param, Num}
 use Rattle.prv_sym.specs.declared.nodes.Slot.{Slot}
-use Rattle.prv_sym.specs.declared.nodes.Slot.TheVariants as Slot
 use Rattle.prv_sym.specs.Calls.{AreSlots, terms_of}
 use Rattle.prv_sym.specs.Symbols.{params_from}
 use Rattle.prv_sym.proofs.Along.{slots-more, terms-more, params-next}

@@ -1,5 +1,4 @@
 use Rattle.std.proofs.lemmas.Result.{err_from_is_err_and}
-use Rattle.prv_pool.specs.Folding.{truth}
 use Rattle.prv_pool.specs.Tables.{term_at}
 use Rattle.prv_sym.specs.Named.{safe_where_true, safe_where_false, false_named}
 use Rattle.prv_sym.proofs.Naming.{names-as, names-then, names-stop, stands-as, stands-at, stands-in, term-kept, still-in}

@@ -1,4 +1,4 @@
-use Rattle.std.proofs.Common.{◌≤◌, ◌≡◌, length, [], arith}
+use Rattle.std.proofs.Common.{◌≤◌, length, [], arith}
 use Rattle.std.proofs.lemmas.Grind.{common_steps}
 use Rattle.prv_disk.specs.MemDisk.{then_quiet, then_writes}
 use Rattle.prv_disk.proofs.Kept.{quiet-length, kept-synced, kept-passed, seen-passed}

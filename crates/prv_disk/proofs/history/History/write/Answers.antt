@@ -1,4 +1,4 @@
-use Rattle.std.proofs.Common.{◌≡◌, ℕ, ◌==◌, List, [], ◌∷◌, ◌++◌, length, if◌then◌else◌, ap, ◌∙◌, sym, rules}
+use Rattle.std.proofs.Common.{◌≡◌, ℕ, List, [], ◌∷◌, ◌++◌, length, if◌then◌else◌, ap, ◌∙◌, sym, rules}
 use Rattle.prv_disk.specs.Bytes.{overwritten}
 use Rattle.prv_disk.specs.MemDisk.{Wrote, Written, Calls, content, then_quiet, then_writes}
 use Rattle.prv_disk.proofs.Kept.{base-is, kept-written, seen-written}

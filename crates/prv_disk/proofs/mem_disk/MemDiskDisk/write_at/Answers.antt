@@ -1,4 +1,4 @@
-use Rattle.std.proofs.Common.{List, ℕ, length, subst}
+use Rattle.std.proofs.Common.{length, subst}
 use Rattle.prv_disk.specs.MemDisk.{Calls, MayLeave}
 use Rattle.prv_disk.proofs.Logs.{stays}
 use Rattle.prv_disk.proofs.mem_disk.MemDiskDisk.write_at.Goals as goal

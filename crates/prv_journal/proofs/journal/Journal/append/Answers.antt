@@ -1,9 +1,9 @@
-use Rattle.std.proofs.Common.{◌≡◌, ◌⊎◌, inl, inr, ⊎_elim, List, ℕ, ◌+◌, ◌*◌, ◌^◌, ◌<◌, ◌≤◌, IsErrOf, true, false, length, refl, ◌∙◌, sym, ap, subst, arith, rules}
+use Rattle.std.proofs.Common.{◌≡◌, inl, ⊎_elim, List, ℕ, ◌+◌, ◌^◌, ◌<◌, IsErrOf, length, ◌∙◌, sym, subst, arith, rules}
 use Rattle.std.proofs.lemmas.Bool.{false≢true}
 use Rattle.prv_disk.specs.declared.disk.DiskError.TheVariants.{Memory}
 use Rattle.prv_journal.specs.Records.{records, followed_by}
 use Rattle.prv_journal.specs.Ends.{HasSettled}
-use Rattle.prv_journal.specs.Journals.{Has, HasBeforeOrWith}
+use Rattle.prv_journal.specs.Journals.{Has}
 use Rattle.prv_journal.proofs.Moments.{adds-none, adds-weaker}
 use Rattle.prv_journal.proofs.Kept.{has-before, has-payloads, has-or-with, has-added, has-same, count-added, count-same}
 use Rattle.prv_journal.proofs.journal.Journal.append.Goals as goal

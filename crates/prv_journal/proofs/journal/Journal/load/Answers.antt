@@ -1,4 +1,4 @@
-use Rattle.std.proofs.Common.{◌≡◌, List, ℕ, ◌≤◌, ◌*◌, length, map, refl, ◌∙◌, sym, ap, arith, Vec, Global}
+use Rattle.std.proofs.Common.{◌≡◌, List, ℕ, length, ◌∙◌, sym, ap, arith, Vec, Global}
 use Rattle.std.proofs.lemmas.List.{length-map}
 use Rattle.prv_journal.specs.Records.{Payloads}
 use Rattle.prv_journal.proofs.RecordsRead.{records-end}

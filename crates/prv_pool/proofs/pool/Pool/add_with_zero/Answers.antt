@@ -1,10 +1,9 @@
-use Rattle.std.proofs.Common.{◌≡◌, ◌≤◌, ◌<◌, ◌-◌, length, true, ap, ◌∙◌, sym, arith, ℕ}
+use Rattle.std.proofs.Common.{◌≡◌, true, ap, arith}
 use Rattle.prv_pool.specs.Folding.{is_folded}
 use Rattle.prv_pool.specs.Tables.{Table}
 use Rattle.prv_model.specs.declared.term.Term.{Term}
 use Rattle.prv_pool.proofs.Shapes.{folded-Num}
 use Rattle.prv_pool.proofs.TableLemmas.{IsClosed, pool-closed}
-use Rattle.prv_pool.proofs.NodeLemmas.{length-terms_of}
 use Rattle.prv_pool.proofs.MakeLemmas.{makes-no-room, makes-no-memory, newest-folded, newest-lacks, makes-both, cut-back}
 use Rattle.prv_pool.proofs.pool.Pool.add_with_zero.Goals as goal
 

@@ -1,5 +1,4 @@
-use Rattle.std.proofs.Common.{◌≡◌, ◌∙◌, sym, ap, subst}
-use Rattle.std.specs.declared.cmp.Ordering.TheVariants.{Equal}
+use Rattle.std.proofs.Common.{◌∙◌, sym, ap}
 use Rattle.prv_model.specs.TermOrder.{term_cmp}
 use Rattle.prv_model.proofs.OrderLemmas.{term_cmp-itself}
 use Rattle.prv_pool.specs.Tables.{term_at}

@@ -1,4 +1,4 @@
-use Rattle.std.proofs.Common.{arith, subst, sym, ℕ, ◌<◌, get_or}
+use Rattle.std.proofs.Common.{arith, subst, ℕ, ◌<◌}
 use Rattle.std.proofs.lemmas.List.{get_or_default}
 use Rattle.prv_pool.proofs.pool.Pool.end_of.Goals as goal
 

@@ -1,5 +1,5 @@
 use Rattle.std.proofs.Common.{arith}
-use Rattle.prv_pool.proofs.NodeLemmas.{length-terms_of, node_at-within, term-of-node_at}
+use Rattle.prv_pool.proofs.NodeLemmas.{node_at-within, term-of-node_at}
 use Rattle.prv_pool.proofs.PoolLemmas.{node-lacks, below-terms, pool-table}
 use Rattle.prv_pool.proofs.pool.Pool.find.Goals as goal
 

@@ -1,9 +1,3 @@
-use Rattle.std.proofs.Common.{◌∙◌, sym, ap, subst, arith, List, ℕ, ℤ, ◌<◌, All, not, ◌≡◌, Bool}
-use Rattle.std.specs.List.{list_all}
-use Rattle.prv_model.specs.Words.{is_zero}
-use Rattle.prv_model.specs.Terms.{term_value}
-use Rattle.prv_pool.specs.Tables.{term_at}
-use Rattle.prv_pool.specs.Values.{value_at}
 use Rattle.prv_pool.proofs.ValueLemmas.{nonzero-are}
 use Rattle.prv_pool.proofs.pool.Pool.holds.Goals as goal
 

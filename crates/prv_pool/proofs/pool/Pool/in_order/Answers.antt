@@ -1,4 +1,4 @@
-use Rattle.std.proofs.Common.{List, [], ◌∷◌}
+use Rattle.std.proofs.Common.{[], ◌∷◌}
 use Rattle.prv_model.specs.declared.term.Term.TheVariants.{Op}
 use Rattle.prv_pool.specs.Folding.{first_of, beside_neutral, beside_decided, on_one_twice, on_truths, beside_zero, negation}
 use Rattle.prv_pool.specs.Tables.{term_at}

@@ -1,5 +1,4 @@
-use Rattle.std.proofs.Common.{sym, ap, ◌∙◌}
-use Rattle.prv_pool.specs.Folding.{negation}
+use Rattle.std.proofs.Common.{sym}
 use Rattle.prv_pool.proofs.NodeLemmas.{term_at-some}
 use Rattle.prv_pool.proofs.FoldedLemmas.{negation-Param, negation-Pick, negation-tested}
 use Rattle.prv_pool.proofs.pool.Pool.negate.Goals as goal

@@ -1,6 +1,4 @@
-use Rattle.std.proofs.Common.{sym, ap, ◌∙◌}
-use Rattle.prv_model.specs.declared.term.Term.TheVariants.{Op, Num}
-use Rattle.prv_pool.specs.Folding.{negation}
+use Rattle.std.proofs.Common.{sym, ◌∙◌}
 use Rattle.prv_pool.proofs.FoldedLemmas.{negation-Op, negation-other}
 use Rattle.prv_pool.proofs.pool.Pool.negate_operator.Goals as goal
 

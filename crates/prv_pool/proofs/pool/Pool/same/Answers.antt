@@ -1,4 +1,3 @@
-use Rattle.std.proofs.Common.{arith}
 use Rattle.prv_pool.proofs.NodeLemmas.{terms-apart}
 use Rattle.prv_pool.proofs.FoldLemmas.{same-numbers}
 use Rattle.prv_pool.specs.Nodes.{terms_of}

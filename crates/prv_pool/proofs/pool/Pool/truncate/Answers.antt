@@ -1,6 +1,5 @@
 use Rattle.std.proofs.Common.{◌∙◌, sym, subst, ap, List, Bool}
 use Rattle.prv_pool.specs.Nodes.{IsPool, terms_of}
-use Rattle.prv_pool.specs.Tables.{Table}
 use Rattle.prv_pool.specs.declared.node.Node.{Node}
 use Rattle.prv_pool.proofs.PoolLemmas.{pool-cut, terms_of-take}
 use Rattle.prv_pool.proofs.pool.Pool.truncate.Goals as goal

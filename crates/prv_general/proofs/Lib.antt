@@ -1,0 +1,4 @@
+pub mod Environments
+pub mod Lockstep
+pub mod Members
+pub mod SliceLaws
