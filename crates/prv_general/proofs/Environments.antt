@@ -18,7 +18,8 @@ use Rattle.prv_dep.specs.Dependences.{has, writes, node_writes}
 use Rattle.prv_dep.proofs.DependenceLaws.{and-left, and-right, neither-left, lacks-left, lacks-right, has-append}
 use Rattle.prv_run.specs.Runs.{Run, Use, runs, node_runs, loop_run, turn_run, branch, follow, where_goes, in_turn_run}
 use Rattle.prv_sym.specs.Symbols.{symbol, after, after_use}
-use Rattle.prv_sym.proofs.SymbolLaws.{AreTerms, symbol-said}
+use Rattle.prv_sym.specs.Judgements.{AreTerms}
+use Rattle.prv_sym.proofs.SymbolLaws.{symbol-said}
 
 -- the variables' terms, where only those of these variables may have changed
 pub record IsAfter (n : ℕ) (written : List ℕ) (env new : List Term) : Type 0 where

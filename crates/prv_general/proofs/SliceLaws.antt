@@ -17,10 +17,12 @@ use Rattle.prv_model.specs.declared.term.Term.{Term, Term-F, fold-roll-Term}
 use Rattle.prv_model.specs.declared.term.Term.TheVariants.{Param, Num, rolls-Param}
 use Rattle.prv_run.specs.Runs.{Run, runs, run_of, in_turn_run}
 use Rattle.prv_sym.specs.Symbols.{params_from, start_terms}
-use Rattle.prv_sym.proofs.SymbolLaws.{AreTerms, state_of, num-term}
+use Rattle.prv_sym.specs.Judgements.{AreTerms, state_of}
+use Rattle.prv_sym.proofs.SymbolLaws.{num-term}
 use Rattle.prv_select.specs.Choices.{choose, nothing}
 use Rattle.prv_general.specs.Slices.{Slice, slice, literals, out_terms, end_terms}
 use Rattle.prv_general.proofs.Lockstep.{Meets, Locked, Locks, is-locked, block-locked}
+use Rattle.prv_general.proofs.Saying.{holds-filtered}
 use Rattle.prv_general.proofs.Members.{IsMember, Members, is-member, block-member}
 
 -- the parameters have the input's words
@@ -110,7 +112,8 @@ how-alike (Some how) a b = refl
 
 pub fixes-outcome : (p : Program) (turns : ℕ) (x y : List ℤ) → IsInput p.params x → IsInput p.params y → holds (slice p turns x).literals y ≡ true →
     outcome p turns y ≡ record { outs = map (λ t. term_value t y) (slice p turns x).outs; how = (slice p turns x).how }
-fixes-outcome p turns x y hx hy h =
+fixes-outcome p turns x y hx hy said =
+    let h : holds (literals (run_of p turns x) (start_terms p) nothing) y ≡ true = sym (holds-filtered (literals (run_of p turns x) (start_terms p) nothing) y) ∙ said in
     let kept : IsProgram p.params p.names p.body = p.kept in
     let n = p.params in
     let env = start_terms p in
@@ -148,4 +151,4 @@ holds-member p turns x hx =
     let P : List Stmt → Type 0 = λ body. all_true (map (λ s. stmt_over (length env) s) body) ≡ true in
     let m = block-member n x all 0 (start p turns x) env nothing (subst P (sym same) over) (start-over p) (start-state p turns x hx) in
     let Q : List Stmt → Type 0 = λ body. holds (literals (in_turn_run (map (λ s. (s, runs s)) body) 0 (start p turns x)) env nothing) x ≡ true in
-    subst Q same m.lits
+    holds-filtered (literals (run_of p turns x) env nothing) x ∙ subst Q same m.lits
