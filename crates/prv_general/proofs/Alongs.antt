@@ -24,18 +24,24 @@ module _ {A : Type 0} (f : Event → A → List Term) where
       ap (λ (ts : List Term). f e x ++ ts) (along-append es fs xs ys (omega (arith, h))) ∙ sym (append_assoc (f e x) (along f es xs) (along f fs ys))
 
   -- one evaluation more
+  along-next : (es : List Event) (xs : List A) (i : ℕ) (d : Event) (x : A) → i < length es → slice_get xs i ≡ Some x →
+      along f (take (suc i) es) xs ≡ along f (take i es) xs ++ f (get_or es i d) x
+  along-next [] xs i d x h is = absurd (omega (arith, h))
+  along-next (e ∷ es) [] i d x h is = cc is
+  along-next (e ∷ es) (y ∷ xs) zero d x h is = let same : y ≡ x = ap (λ (o : Option A). unwrap_or o y) is in append-nil (f e y) ∙ ap (λ (z : A). f e z) same
+  along-next (e ∷ es) (y ∷ xs) (suc i) d x h is =
+      ap (λ (ts : List Term). f e y ++ ts) (along-next es xs i d x (omega (arith, h)) is) ∙ sym (append_assoc (f e y) (along f (take i es) xs) (f (get_or es i d) x))
+
   pub along-more : (es : List Event) (xs : List A) (i : ℕ) (d : Event) (x : A) → i < length es → slice_get xs i ≡ Some x →
       along f (take (i + 1) es) xs ≡ along f (take i es) xs ++ f (get_or es i d) x
-  along-more [] xs i d x h is = absurd (omega (arith, h))
-  along-more (e ∷ es) [] i d x h is = cc is
-  along-more (e ∷ es) (y ∷ xs) zero d x h is = let same : y ≡ x = ap (λ (o : Option A). unwrap_or o y) is in append-nil (f e y) ∙ ap (λ (z : A). f e z) same
-  along-more (e ∷ es) (y ∷ xs) (suc i) d x h is =
-      ap (λ (ts : List Term). f e y ++ ts) (along-more es xs i d x (omega (arith, h)) is) ∙ sym (append_assoc (f e y) (along f (take i es) xs) (f (get_or es i d) x))
+  along-more es xs i d x h is = let more : i + 1 ≡ suc i = omega arith in ap (λ (n : ℕ). along f (take n es) xs) more ∙ along-next es xs i d x h is
 
   -- what is had of a front is had first
   pub along-rest : (es : List Event) (xs : List A) (i : ℕ) → (rest : List Term) × (along f es xs ≡ along f (take i es) xs ++ rest)
-  along-rest [] xs i = ([], refl)
-  along-rest (e ∷ es) [] i = ([], refl)
+  along-rest [] xs zero = ([], refl)
+  along-rest [] xs (suc i) = ([], refl)
+  along-rest (e ∷ es) [] zero = ([], refl)
+  along-rest (e ∷ es) [] (suc i) = ([], refl)
   along-rest (e ∷ es) (x ∷ xs) zero = (along f (e ∷ es) (x ∷ xs), refl)
   along-rest (e ∷ es) (x ∷ xs) (suc i) =
       let more = along-rest es xs i in

@@ -5,3 +5,6 @@ pub mod Saying
 pub mod SliceLaws
 pub mod Alongs
 pub mod Standing
+pub mod Making
+pub mod Whole
+pub mod Stages

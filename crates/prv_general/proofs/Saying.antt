@@ -29,8 +29,8 @@ one-holds t y e = ap (λ (u : Term). not (is_zero (term_value u y))) (one-is t e
 -- what says something holds where all do
 pub holds-filtered : (ts : List Term) (y : List ℤ) → holds (filter says_something ts) y ≡ holds ts y
 holds-filtered [] y = refl
-holds-filtered (t ∷ ts) y = by (is_number (pos 1) t) refl
+holds-filtered (t ∷ ts) y = by (is_number (pos 1) t) refl (holds-filtered ts y)
   where
-    by : (z : Bool) → is_number (pos 1) t ≡ z → holds (if not z then t ∷ filter says_something ts else filter says_something ts) y ≡ holds (t ∷ ts) y
-    by true is = holds-filtered ts y ∙ sym (ap (λ (c : Bool). c && holds ts y) (one-holds t y is))
-    by false is = ap (λ (c : Bool). not (is_zero (term_value t y)) && c) (holds-filtered ts y)
+    by : (z : Bool) → is_number (pos 1) t ≡ z → holds (filter says_something ts) y ≡ holds ts y → holds (if not z then t ∷ filter says_something ts else filter says_something ts) y ≡ holds (t ∷ ts) y
+    by true is rest = rest ∙ sym (ap (λ (c : Bool). c && holds ts y) (one-holds t y is))
+    by false is rest = ap (λ (c : Bool). not (is_zero (term_value t y)) && c) rest

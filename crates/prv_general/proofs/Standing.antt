@@ -1,9 +1,16 @@
 -- Nodes that stand for terms: in a table that has grown, one more, and what follows for their numbers.
 use Rattle.std.proofs.Common.{◌≡◌, ℕ, zero, suc, ◌+◌, ◌<◌, Bool, true, false, not, List, [], ◌∷◌, ◌++◌, length, map, get_or, slice_get, Option, Some, ℤ, pos, refl, sym, ap, ◌∙◌, subst, arith, All, if◌then◌else◌, append-nil, unwrap_or}
 use Rattle.std.specs.Prelude.{filter}
+use Rattle.std.specs.Option.{option_map}
+use Rattle.std.specs.Ordering.{int_eq}
+use Rattle.std.proofs.lemmas.List.Elements.{filter-append}
 use Rattle.prv_model.specs.declared.term.Term.{Term}
 use Rattle.prv_model.specs.declared.term.Term.TheVariants.{Num}
+use Rattle.prv_pool.specs.Folding.{is_number}
+use Rattle.prv_pool.specs.Nodes.{node_term, node_number}
 use Rattle.prv_pool.specs.Tables.{term_at}
+use Rattle.prv_pool.specs.declared.node.Node.{Node}
+use Rattle.prv_pool.proofs.FoldLemmas.{number-of-node}
 use Rattle.prv_sym.specs.Calls.{StandsFor, AllStand, symbol_at}
 use Rattle.prv_sym.specs.Symbols.{Symbol}
 use Rattle.prv_sym.proofs.Naming.{Grows, stands-on, stands-in, stands-at, term-kept}
@@ -63,3 +70,15 @@ symbols-are terms [] ss (x ∷ symbols) a b = absurd a
 symbols-are terms (v ∷ vs) [] (x ∷ symbols) a b = absurd b
 symbols-are terms (v ∷ vs) (s ∷ ss) (x ∷ symbols) a b =
     λ i. record { term = stands-at terms v x.term a.0 i; safe = stands-at terms s x.safe b.0 i } ∷ symbols-are terms vs ss symbols a.1 b.1 i
+
+-- whether a node's term says something
+pub node-says : (terms : List Term) (node d : Node) → node ≡ d → says_something (node_term terms node) ≡ not (unwrap_or (option_map (int_eq (pos 1)) (node_number d)) false)
+node-says terms node d is = ap (λ (o : Option ℤ). not (unwrap_or (option_map (int_eq (pos 1)) o) false)) (number-of-node terms node ∙ ap (λ (n : Node). node_number n) is)
+
+-- one condition more, which says something
+pub says-more : (terms : List Term) (ns : List ℕ) (ts : List Term) (n : ℕ) (t : Term) → AllStand terms ns (filter says_something ts) → StandsFor terms n t → says_something t ≡ true →
+    AllStand terms (ns ++ n ∷ []) (filter says_something (ts ++ t ∷ []))
+says-more terms ns ts n t s is says =
+    let P : List Term → Type 0 = λ us. AllStand terms (ns ++ n ∷ []) us in
+    let one : filter says_something (t ∷ []) ≡ t ∷ [] = ap (λ (b : Bool). if b then t ∷ [] else []) says in
+    subst P (sym (filter-append says_something ts (t ∷ []) ∙ ap (λ (us : List Term). filter says_something ts ++ us) one)) (all-more terms ns (filter says_something ts) n t s is)

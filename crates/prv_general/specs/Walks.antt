@@ -1,5 +1,5 @@
 -- The conditions of a run and what it puts out, told along its evaluations: each with whether it is kept and with its symbol.
-use Rattle.std.specs.Prelude.{ℕ, ◌<◌, nat_lt, Bool, ◌&&◌, List, [], ◌∷◌, ◌++◌, pos, if◌then◌else◌}
+use Rattle.std.specs.Prelude.{ℕ, ◌<◌, nat_lt, Bool, true, false, ◌&&◌, List, [], ◌∷◌, ◌++◌, pos, if◌then◌else◌}
 use Rattle.prv_model.specs.declared.term.Term.{Term}
 use Rattle.prv_model.specs.declared.term.Term.TheVariants.{Num}
 use Rattle.prv_pool.specs.Folding.{negation}

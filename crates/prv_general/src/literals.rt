@@ -1,4 +1,6 @@
-ghost use Rattle.std.specs.Prelude.{◌≡◌, ◌<◌, List, [], ◌∷◌, ◌++◌, length, filter, All, IfOk, OnOk};
+ghost use Rattle.std.specs.Prelude.{◌≡◌, ◌<◌, List, [], ◌∷◌, ◌++◌, length, filter, pos, All, IfOk, OnOk};
+ghost use Rattle.std.specs.Ordering.{int_eq};
+ghost use Rattle.prv_model.specs.Words.{is_zero as is_zero_of};
 ghost use Rattle.prv_model.specs.declared.term.Term.{Term};
 ghost use Rattle.prv_pool.specs.Nodes.{node_term};
 ghost use Rattle.prv_pool.specs.Tables.{term_at};
@@ -98,8 +100,10 @@ fn add_decision(
     if decides(event.what) {
         let decided = decided(event.value, value, pool)?;
         add(decided, literals, pool)?;
+        Ok(())
+    } else {
+        Ok(())
     }
-    Ok(())
 }
 
 /// Whether it matters to a run if a value is 0.
@@ -116,11 +120,18 @@ fn decided(word: i32, node: u32, pool: &mut Pool) -> Result<u32, PoolError>
     ensures names { Names (decided_named word (term_at pool.old.terms node)) pool.old pool.new result }
 {
     let truth = pool.truth(node)?;
-    if word == 0 {
+    if is_zero(word) {
         pool.not(truth)
     } else {
         Ok(truth)
     }
+}
+
+/// Whether a word is 0.
+fn is_zero(word: i32) -> bool
+    ensures { result ≡ is_zero_of word }
+{
+    word == 0
 }
 
 /// Adds a condition, unless it is the number 1.
@@ -131,8 +142,10 @@ fn add(node: u32, literals: &mut Items<u32>, pool: &Pool) -> Result<(), AllocErr
 {
     if says_something(pool.node(node)) {
         literals.push(node)?;
+        Ok(())
+    } else {
+        Ok(())
     }
-    Ok(())
 }
 
 /// Whether a node's term is another one than the number 1.
@@ -140,7 +153,16 @@ fn says_something(node: Node) -> bool
     ensures { (terms : List Term) → result ≡ says_something_of (node_term terms node) }
 {
     match node {
-        Node::Num(n) => n != 1,
-        _ => true,
+        Node::Param(_) => true,
+        Node::Num(n) => !is_one(n),
+        Node::Op(_, _, _) => true,
+        Node::Pick(_, _, _) => true,
     }
+}
+
+/// Whether a word is 1.
+fn is_one(word: i32) -> bool
+    ensures { result ≡ int_eq (pos 1) word }
+{
+    word == 1
 }

@@ -1,5 +1,6 @@
-ghost use Rattle.std.specs.Prelude.{◌≡◌, List, ◌++◌, length, IfOk, OnOk};
+ghost use Rattle.std.specs.Prelude.{◌≡◌, List, [], ◌∷◌, ◌++◌, length, pos, IfOk, OnOk};
 ghost use Rattle.prv_model.specs.declared.term.Term.{Term};
+ghost use Rattle.prv_model.specs.declared.term.Term.TheVariants.{Num};
 ghost use Rattle.prv_sym.specs.Calls.{Names, StandsFor, AllStand};
 ghost use Rattle.prv_general.specs.Walks.{along, event_outs, puts as puts_of, end_by};
 
@@ -26,8 +27,10 @@ fn add_out(event: Event, value: u32, outs: &mut Items<u32>) -> Result<(), AllocE
 {
     if event.safe && puts(event.what) {
         outs.push(value)?;
+        Ok(())
+    } else {
+        Ok(())
     }
-    Ok(())
 }
 
 /// Whether a value is put out or returned.
@@ -43,8 +46,18 @@ pub fn add_end(outs: &mut Items<u32>, words: usize, pool: &mut Pool) -> Result<(
     ensures names { Names (end_by (length outs.old) words) pool.old pool.new result }
 {
     if outs.len() < words {
-        let zero = pool.num(0)?;
-        outs.push(zero)?;
+        add_zero(outs, pool)
+    } else {
+        Ok(())
     }
+}
+
+/// Adds the node of 0.
+fn add_zero(outs: &mut Items<u32>, pool: &mut Pool) -> Result<(), PoolError>
+    ensures stands { (ts : List Term) → AllStand pool.old.terms outs.old ts → OnOk result (AllStand pool.new.terms outs.new (ts ++ Num (pos 0) ∷ [])) }
+    ensures names { Names (Num (pos 0) ∷ []) pool.old pool.new result }
+{
+    let zero = pool.num(0)?;
+    outs.push(zero)?;
     Ok(())
 }

@@ -65,6 +65,7 @@ pub fn generalise(
     ensures literals { result ≡ Err GeneralError.Literals → 1024 < length (slice program.now turns input.now).literals }
     ensures wide { result ≡ Err GeneralError.Wide → pool.old.max_nodes < length (add_terms pool.old.terms (slice_named program.now turns input.now)) }
 {
+    let _ = input.as_slice();
     let deps = Writes::of(alloc, program)?;
     let traced = trace(alloc, program, input, turns)?;
     let chosen = select(alloc, program, &traced, &deps)?;
