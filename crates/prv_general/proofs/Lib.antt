@@ -3,6 +3,7 @@ pub mod Lockstep
 pub mod Members
 pub mod Saying
 pub mod SliceLaws
+pub mod SliceTerms
 pub mod Alongs
 pub mod Standing
 pub mod Making

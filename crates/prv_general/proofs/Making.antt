@@ -1,6 +1,7 @@
 -- How conditions are made one after another.
-use Rattle.std.proofs.Common.{◌≡◌, ℕ, zero, suc, ◌+◌, ◌<◌, Bool, true, false, List, [], ◌∷◌, ◌++◌, length, take, get_or, slice_get, Option, Some, Result, Ok, Err, All, refl, sym, ap, ◌∙◌, subst, arith}
+use Rattle.std.proofs.Common.{◌≡◌, ℕ, zero, suc, ◌+◌, ◌<◌, Bool, true, false, List, [], ◌∷◌, ◌++◌, length, take, get_or, slice_get, Option, Some, Result, Ok, Err, ℤ, All, if◌then◌else◌, refl, sym, ap, ◌∙◌, subst, arith}
 use Rattle.std.specs.Prelude.{filter}
+use Rattle.prv_model.specs.Words.{is_zero}
 use Rattle.prv_model.specs.declared.term.Term.{Term}
 use Rattle.prv_pool.specs.Tables.{Table, Makes, has_term, add_term, term_at}
 use Rattle.prv_pool.specs.Folding.{negation, truth}
@@ -11,9 +12,25 @@ use Rattle.prv_run.specs.declared.event.Event.{Event}
 use Rattle.prv_sym.specs.Calls.{Names, AllStand, symbol_at}
 use Rattle.prv_sym.specs.Symbols.{Symbol}
 use Rattle.prv_sym.proofs.Naming.{Grows, grows-none, symbol-kept, names-as, names-then, names-stop, names-one}
-use Rattle.prv_general.specs.Slices.{says_something}
-use Rattle.prv_general.specs.Walks.{conditions, condition_names, Flagged, flagged, if_kept, along, symbols_at}
+use Rattle.prv_general.specs.Slices.{says_something, decided, decided_named}
+use Rattle.prv_general.specs.Walks.{decides, decision, decision_names, conditions, condition_names, Flagged, flagged, if_kept, along, symbols_at}
 use Rattle.prv_general.proofs.Alongs.{along-more, along-rest}
+
+-- what is said of an evaluation by cases
+pub named-zero : (n : ℤ) (t : Term) → is_zero n ≡ true → decided_named n t ≡ truth t ∷ negation (truth t) ∷ []
+named-zero n t e = ap (λ (b : Bool). truth t ∷ (if b then negation (truth t) else truth t) ∷ []) e
+
+pub named-other : (n : ℤ) (t : Term) → is_zero n ≡ false → decided_named n t ≡ truth t ∷ truth t ∷ []
+named-other n t e = ap (λ (b : Bool). truth t ∷ (if b then negation (truth t) else truth t) ∷ []) e
+
+pub decision-is : (event : Event) (t : Term) → decides event.what ≡ true → decision event t ≡ decided event.value t ∷ []
+decision-is event t e = ap (λ (b : Bool). if b then decided event.value t ∷ [] else []) e
+
+pub fault-conditions : (event : Event) (s : Symbol) → event.safe ≡ false → conditions event s ≡ negation s.safe ∷ []
+fault-conditions event s e = ap (λ (b : Bool). if b then s.safe ∷ decision event s.term else negation s.safe ∷ []) e
+
+pub fault-names : (event : Event) (s : Symbol) → event.safe ≡ false → condition_names event s ≡ negation s.safe ∷ []
+fault-names event s e = ap (λ (b : Bool). if b then decision_names event s.term else negation s.safe ∷ []) e
 
 -- a term that was made is named once more
 pub named-twice : (t : Term) (old new : Table) (n : ℕ) → Makes t old new (Ok n) → Names (t ∷ t ∷ []) old new (Ok n)

@@ -71,14 +71,14 @@ params-terms n (suc m) k rest h t = λ v. elim v as (λ u. IsTerm n (unwrap_or (
   | suc u ↦ params-terms n m (suc k) rest (omega (arith, h)) t u
 ]
 
-start-over : (p : Program) → AreTerms p.params (start_terms p)
+pub start-over : (p : Program) → AreTerms p.params (start_terms p)
 start-over p = params-terms p.params p.params 0 _ (omega arith) (zeros-terms p.params (length p.names - p.params))
 
 params-length : (k m : ℕ) → length (params_from k m) ≡ m
 params-length k zero = refl
 params-length k (suc m) = ap (λ (l : ℕ). suc l) (params-length (suc k) m)
 
-start-length : (p : Program) → p.params ≤ length p.names → length (start_terms p) ≡ length p.names
+pub start-length : (p : Program) → p.params ≤ length p.names → length (start_terms p) ≡ length p.names
 start-length p h = length-append (params_from 0 p.params) (replicate (length p.names - p.params) (Num (pos 0)))
     ∙ omega (arith, h, params-length 0 p.params, length-replicate (length p.names - p.params) (Num (pos 0)))
 

@@ -22,12 +22,12 @@ use Rattle.prv_general.proofs.Standing.{all-on, all-in, all-long, symbols-are}
 use Rattle.prv_general.proofs.Whole.{nodes-long, end-is, literals-are, names-are, outs-are}
 
 -- the evaluations of a program's run at an input, with the choice in it and with the nodes of its symbols
-pub record Told (p : Program) (turns : ℕ) (x : List ℤ) (terms : List Term) (told : List Event) (kept : List Bool) (values safes : List ℕ) : Type 0 where
+pub record Told (p : Program) (turns : ℕ) (x : List ℤ) (terms : List Term) (told : List Event) (kept : List Bool) (vs ss : List ℕ) : Type 0 where
   pub input : IsInput p.params x
   pub events : told ≡ events (run_of p turns x)
   pub flags : kept ≡ (choose (run_of p turns x) nothing).kept
-  pub values : AllStand terms values (map (λ s. s.term) (run_symbols (run_of p turns x) (start_terms p)))
-  pub safes : AllStand terms safes (map (λ s. s.safe) (run_symbols (run_of p turns x) (start_terms p)))
+  pub values : AllStand terms vs (map (λ s. s.term) (run_symbols (run_of p turns x) (start_terms p)))
+  pub safes : AllStand terms ss (map (λ s. s.safe) (run_symbols (run_of p turns x) (start_terms p)))
 
 module _ (p : Program) (turns : ℕ) (x : List ℤ) (terms : List Term) (told : List Event) (kept : List Bool) (values safes : List ℕ) (t : Told p turns x terms told kept values safes) where
   pub values-fit : length values ≡ length told

@@ -1,21 +1,22 @@
 -- Nodes that stand for terms: in a table that has grown, one more, and what follows for their numbers.
-use Rattle.std.proofs.Common.{◌≡◌, ℕ, zero, suc, ◌+◌, ◌<◌, Bool, true, false, not, List, [], ◌∷◌, ◌++◌, length, map, get_or, slice_get, Option, Some, ℤ, pos, refl, sym, ap, ◌∙◌, subst, arith, All, if◌then◌else◌, append-nil, unwrap_or}
+use Rattle.std.proofs.Common.{◌≡◌, ℕ, zero, suc, ◌+◌, ◌<◌, Bool, true, false, ◌&&◌, not, List, [], ◌∷◌, ◌++◌, length, map, get_or, slice_get, Option, Some, ℤ, pos, refl, sym, ap, ◌∙◌, subst, arith, All, if◌then◌else◌, append-nil, unwrap_or}
 use Rattle.std.specs.Prelude.{filter}
 use Rattle.std.specs.Option.{option_map}
 use Rattle.std.specs.Ordering.{int_eq}
 use Rattle.std.proofs.lemmas.List.Elements.{filter-append}
 use Rattle.prv_model.specs.declared.term.Term.{Term}
 use Rattle.prv_model.specs.declared.term.Term.TheVariants.{Num}
-use Rattle.prv_pool.specs.Folding.{is_number}
 use Rattle.prv_pool.specs.Nodes.{node_term, node_number}
 use Rattle.prv_pool.specs.Tables.{term_at}
 use Rattle.prv_pool.specs.declared.node.Node.{Node}
+use Rattle.prv_pool.specs.declared.node.Node.TheVariants as node
+use Rattle.prv_run.specs.declared.event.Event.{Event}
 use Rattle.prv_pool.proofs.FoldLemmas.{number-of-node}
 use Rattle.prv_sym.specs.Calls.{StandsFor, AllStand, symbol_at}
 use Rattle.prv_sym.specs.Symbols.{Symbol}
 use Rattle.prv_sym.proofs.Naming.{Grows, stands-on, stands-in, stands-at, term-kept}
 use Rattle.prv_general.specs.Slices.{says_something}
-use Rattle.prv_general.specs.Walks.{symbols_at}
+use Rattle.prv_general.specs.Walks.{node_is_one, puts, event_outs, symbols_at}
 
 -- in a table that has grown
 pub all-on : (old new : List Term) → Grows old new → (ns : List ℕ) (ts : List Term) → AllStand old ns ts → AllStand new ns ts
@@ -72,8 +73,14 @@ symbols-are terms (v ∷ vs) (s ∷ ss) (x ∷ symbols) a b =
     λ i. record { term = stands-at terms v x.term a.0 i; safe = stands-at terms s x.safe b.0 i } ∷ symbols-are terms vs ss symbols a.1 b.1 i
 
 -- whether a node's term says something
-pub node-says : (terms : List Term) (node d : Node) → node ≡ d → says_something (node_term terms node) ≡ not (unwrap_or (option_map (int_eq (pos 1)) (node_number d)) false)
-node-says terms node d is = ap (λ (o : Option ℤ). not (unwrap_or (option_map (int_eq (pos 1)) o) false)) (number-of-node terms node ∙ ap (λ (n : Node). node_number n) is)
+number-is-one : (d : Node) → unwrap_or (option_map (int_eq (pos 1)) (node_number d)) false ≡ node_is_one d
+number-is-one (node.Param k) = refl
+number-is-one (node.Num n) = refl
+number-is-one (node.Op op a b) = refl
+number-is-one (node.Pick test a b) = refl
+
+pub node-says : (terms : List Term) (d : Node) → says_something (node_term terms d) ≡ not (node_is_one d)
+node-says terms d = ap (λ (o : Option ℤ). not (unwrap_or (option_map (int_eq (pos 1)) o) false)) (number-of-node terms d) ∙ ap (λ (b : Bool). not b) (number-is-one d)
 
 -- one condition more, which says something
 pub says-more : (terms : List Term) (ns : List ℕ) (ts : List Term) (n : ℕ) (t : Term) → AllStand terms ns (filter says_something ts) → StandsFor terms n t → says_something t ≡ true →
@@ -82,3 +89,10 @@ says-more terms ns ts n t s is says =
     let P : List Term → Type 0 = λ us. AllStand terms (ns ++ n ∷ []) us in
     let one : filter says_something (t ∷ []) ≡ t ∷ [] = ap (λ (b : Bool). if b then t ∷ [] else []) says in
     subst P (sym (filter-append says_something ts (t ∷ []) ∙ ap (λ (us : List Term). filter says_something ts ++ us) one)) (all-more terms ns (filter says_something ts) n t s is)
+
+-- what an evaluation puts out
+pub puts-more : (terms : List Term) (ns : List ℕ) (ts : List Term) (n : ℕ) (t : Term) (event : Event) → event.safe ≡ true → puts event.what ≡ true → AllStand terms ns ts → StandsFor terms n t →
+    AllStand terms (ns ++ n ∷ []) (ts ++ event_outs event t)
+puts-more terms ns ts n t event safe out s is =
+    let both : (event.safe && puts event.what) ≡ true = (λ i. safe i && puts event.what) ∙ out in
+    subst (λ (us : List Term). AllStand terms (ns ++ n ∷ []) (ts ++ us)) (sym (ap (λ (b : Bool). if b then t ∷ [] else []) both)) (all-more terms ns ts n t s is)

@@ -40,7 +40,7 @@ words-are p turns x h =
     let terms = out_terms (run_of p turns x) (start_terms p) in
     let end = end_terms (exec_all p.body (start p turns x)).ending in
     ap (λ (o : Outcome). length o.outs) (fixes-outcome p turns x x h h (holds-member p turns x h))
-    ∙ length-map (λ t. term_value t x) (terms ++ end) ∙ length-append terms end
+    ∙ length-map (terms ++ end) (λ t. term_value t x) ∙ length-append terms end
 
 pub end-is : (p : Program) (turns : ℕ) (x : List ℤ) (n m : ℕ) → IsInput p.params x → n ≡ length (out_terms (run_of p turns x) (start_terms p)) → m ≡ length (outcome p turns x).outs →
     end_by n m ≡ end_terms (exec_all p.body (start p turns x)).ending
@@ -68,7 +68,7 @@ passed-wide pool.Memory g r a b h = cc (a, b, h)
 -- each evaluation that was told has its nodes
 pub nodes-long : (run : Run) (env : List Term) (terms : List Term) (part : Symbol → Term) (ns : List ℕ) (told : List Event) → told ≡ events run → AllStand terms ns (map part (run_symbols run env)) → length ns ≡ length told
 nodes-long run env terms part ns told is stand =
-    all-long terms ns (map part (run_symbols run env)) stand ∙ length-map part (run_symbols run env) ∙ symbols-length run env ∙ sym (ap (λ (es : List Event). length es) is)
+    all-long terms ns (map part (run_symbols run env)) stand ∙ length-map (run_symbols run env) part ∙ symbols-length run env ∙ sym (ap (λ (es : List Event). length es) is)
 
 -- three calls, of which the first two were answered, and the second of three, where it was refused
 pub three-calls : {A B C : Type 0} (a b d : List Term) (old mid far new : Table) (x : A) (y : B) (r : Result C PoolError) → Names a old mid (Ok x) → Names b mid far (Ok y) → Names d far new r → Names (a ++ (b ++ d)) old new r

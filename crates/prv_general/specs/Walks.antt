@@ -1,14 +1,22 @@
 -- The conditions of a run and what it puts out, told along its evaluations: each with whether it is kept and with its symbol.
 use Rattle.std.specs.Prelude.{ℕ, ◌<◌, nat_lt, Bool, true, false, ◌&&◌, List, [], ◌∷◌, ◌++◌, pos, if◌then◌else◌}
+use Rattle.std.specs.Ordering.{int_eq}
 use Rattle.prv_model.specs.declared.term.Term.{Term}
 use Rattle.prv_model.specs.declared.term.Term.TheVariants.{Num}
 use Rattle.prv_pool.specs.Folding.{negation}
+use Rattle.prv_pool.specs.declared.node.Node.{Node}
+use Rattle.prv_pool.specs.declared.node.Node.TheVariants as node
 use Rattle.prv_run.specs.declared.event.Event.{Event}
 use Rattle.prv_run.specs.declared.event.What.{What}
 use Rattle.prv_run.specs.declared.event.What.TheVariants as w
 use Rattle.prv_sym.specs.Calls.{symbol_at}
 use Rattle.prv_sym.specs.Symbols.{Symbol}
 use Rattle.prv_general.specs.Slices.{decided, decided_named}
+
+-- a node is the number 1
+abbrev pub node_is_one : Node → Bool
+node_is_one (node.Num n) = int_eq (pos 1) n
+node_is_one _ = false
 
 -- it matters to a run if a value is 0
 abbrev pub decides : What → Bool

@@ -11,5 +11,5 @@ mod slice;
 mod tests;
 
 pub use error::GeneralError;
-pub use laws::{slice_fixes_outcome, slice_holds_its_input};
-pub use slice::{MAX_LITERALS, Slice, generalise};
+pub use laws::{slice_fixes_outcome, slice_holds_its_input, slice_is_over_parameters};
+pub use slice::{MAX_LITERALS, Slice, generalise, slice_at};

@@ -1,12 +1,11 @@
-ghost use Rattle.std.specs.Prelude.{◌≡◌, ◌<◌, List, [], ◌∷◌, ◌++◌, length, filter, pos, All, IfOk, OnOk};
-ghost use Rattle.std.specs.Ordering.{int_eq};
+ghost use Rattle.std.specs.Prelude.{◌≡◌, ◌<◌, List, [], ◌∷◌, ◌++◌, length, filter, All, IfOk, OnOk};
 ghost use Rattle.prv_model.specs.Words.{is_zero as is_zero_of};
 ghost use Rattle.prv_model.specs.declared.term.Term.{Term};
 ghost use Rattle.prv_pool.specs.Nodes.{node_term};
 ghost use Rattle.prv_pool.specs.Tables.{term_at};
 ghost use Rattle.prv_sym.specs.Calls.{Names, StandsFor, AreIn, AllStand, symbol_at};
 ghost use Rattle.prv_general.specs.Slices.{says_something as says_something_of, decided as decided_of, decided_named};
-ghost use Rattle.prv_general.specs.Walks.{decision, decision_names, conditions, condition_names, decides as decides_of, flagged, if_kept, along, symbols_at};
+ghost use Rattle.prv_general.specs.Walks.{node_is_one, decision, decision_names, conditions, condition_names, decides as decides_of, flagged, if_kept, along, symbols_at};
 
 use prv_pool::{Node, Pool, PoolError};
 use prv_run::{Event, What};
@@ -98,7 +97,7 @@ fn add_decision(
     ensures names { Names (decision_names event (term_at pool.old.terms value)) pool.old pool.new result }
 {
     if decides(event.what) {
-        let decided = decided(event.value, value, pool)?;
+        let decided = decided(event, value, pool)?;
         add(decided, literals, pool)?;
         Ok(())
     } else {
@@ -113,25 +112,25 @@ fn decides(what: What) -> bool
     matches!(what, What::Test | What::Assert)
 }
 
-/// The node that a term is nonzero, where the word is, and that it is 0, where the word is 0.
-fn decided(word: i32, node: u32, pool: &mut Pool) -> Result<u32, PoolError>
+/// The node that a term is nonzero, where the evaluation's word is, and that it is 0, where the word is 0.
+fn decided(event: Event, node: u32, pool: &mut Pool) -> Result<u32, PoolError>
     requires { node < length pool.old.terms }
-    ensures stands { IfOk result (λ n. StandsFor pool.new.terms n (decided_of word (term_at pool.old.terms node))) }
-    ensures names { Names (decided_named word (term_at pool.old.terms node)) pool.old pool.new result }
+    ensures stands { IfOk result (λ n. StandsFor pool.new.terms n (decided_of event.value (term_at pool.old.terms node))) }
+    ensures names { Names (decided_named event.value (term_at pool.old.terms node)) pool.old pool.new result }
 {
     let truth = pool.truth(node)?;
-    if is_zero(word) {
+    if is_zero(event) {
         pool.not(truth)
     } else {
         Ok(truth)
     }
 }
 
-/// Whether a word is 0.
-fn is_zero(word: i32) -> bool
-    ensures { result ≡ is_zero_of word }
+/// Whether an evaluation's word is 0.
+fn is_zero(event: Event) -> bool
+    ensures { result ≡ is_zero_of event.value }
 {
-    word == 0
+    event.value == 0
 }
 
 /// Adds a condition, unless it is the number 1.
@@ -152,17 +151,15 @@ fn add(node: u32, literals: &mut Items<u32>, pool: &Pool) -> Result<(), AllocErr
 fn says_something(node: Node) -> bool
     ensures { (terms : List Term) → result ≡ says_something_of (node_term terms node) }
 {
-    match node {
-        Node::Param(_) => true,
-        Node::Num(n) => !is_one(n),
-        Node::Op(_, _, _) => true,
-        Node::Pick(_, _, _) => true,
-    }
+    !is_one(node)
 }
 
-/// Whether a word is 1.
-fn is_one(word: i32) -> bool
-    ensures { result ≡ int_eq (pos 1) word }
+/// Whether a node is the number 1.
+fn is_one(node: Node) -> bool
+    ensures { result ≡ node_is_one node }
 {
-    word == 1
+    match node {
+        Node::Num(n) => n == 1,
+        _ => false,
+    }
 }

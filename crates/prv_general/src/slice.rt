@@ -38,13 +38,44 @@ pub struct Slice {
     pub marks: Items<u8>,
 }
 
-/// The slice of a program at an input, under a bound on the turns of its loops.
+/// The slice of a program at an input, under a bound on the turns of its loops, however many literals it
+/// has.
 ///
 /// On every input on which all literals are nonzero, the program puts out the values of `outs` and ends
-/// in this way. The pool has then all terms that are named on the way, also where the literals are too
-/// many. After a refusal its nodes keep their numbers; it may have some of these terms more.
+/// in this way. The pool has then all terms that are named on the way. After a refusal its nodes keep
+/// their numbers; it may have some of these terms more.
 ///
-/// The time is in proportion to the run and the size of the program.
+/// The time and the memory are in proportion to the run and the size of the program.
+pub fn slice_at(
+    alloc: Global,
+    program: &Program,
+    input: &Input,
+    turns: u32,
+    pool: &mut Pool,
+) -> Result<Slice, PoolError>
+    requires { length input.now ≡ program.now.params }
+    ensures slice { IfOk result (λ s. IsSlice pool.new.terms s (slice program.now turns input.now)) }
+    ensures fixes { IfOk result (λ s. (y : List ℤ) → IsInput program.now.params y → holds (terms_at pool.new.terms s.literals) y ≡ true →
+        outcome program.now turns y ≡ record { outs = map (λ t. term_value t y) (terms_at pool.new.terms s.outs); how = s.how }) }
+    ensures member { IfOk result (λ s. holds (terms_at pool.new.terms s.literals) input.now ≡ true) }
+    ensures names { Names (slice_named program.now turns input.now) pool.old pool.new result }
+{
+    let _ = input.as_slice();
+    let deps = Writes::of(alloc, program)?;
+    let traced = trace(alloc, program, input, turns)?;
+    let chosen = select(alloc, program, &traced, &deps)?;
+    let nodes = make_nodes(alloc, program, &traced, chosen.events.as_slice(), pool)?;
+    Ok(Slice {
+        literals: nodes.literals,
+        outs: nodes.outs,
+        how: traced.outcome.how,
+        marks: chosen.marks,
+    })
+}
+
+/// The slice of a program at an input, as `slice_at` makes it, if it has at most 1,024 literals.
+///
+/// The pool has then all terms that are named on the way, also where the literals are too many.
 pub fn generalise(
     alloc: Global,
     program: &Program,
@@ -65,20 +96,11 @@ pub fn generalise(
     ensures literals { result ≡ Err GeneralError.Literals → 1024 < length (slice program.now turns input.now).literals }
     ensures wide { result ≡ Err GeneralError.Wide → pool.old.max_nodes < length (add_terms pool.old.terms (slice_named program.now turns input.now)) }
 {
-    let _ = input.as_slice();
-    let deps = Writes::of(alloc, program)?;
-    let traced = trace(alloc, program, input, turns)?;
-    let chosen = select(alloc, program, &traced, &deps)?;
-    let nodes = make_nodes(alloc, program, &traced, chosen.events.as_slice(), pool)?;
-    if nodes.literals.len() > MAX_LITERALS {
+    let slice = slice_at(alloc, program, input, turns, pool)?;
+    if slice.literals.len() > MAX_LITERALS {
         return Err(GeneralError::Literals);
     }
-    Ok(Slice {
-        literals: nodes.literals,
-        outs: nodes.outs,
-        how: traced.outcome.how,
-        marks: chosen.marks,
-    })
+    Ok(slice)
 }
 
 /// The nodes of a slice.

@@ -6,7 +6,7 @@ use Rattle.prv_sym.specs.Calls.{AllStand}
 use Rattle.prv_sym.specs.Named.{run_symbols}
 use Rattle.prv_sym.specs.Symbols.{start_terms}
 use Rattle.prv_run.specs.Runs.{run_of}
-use Rattle.prv_sym.proofs.Naming.{answered, names-stop}
+use Rattle.prv_sym.proofs.Naming.{answered, refused, names-stop}
 use Rattle.prv_general.proofs.Making.{then-refused}
 use Rattle.prv_general.proofs.Whole.{two-calls, three-calls}
 use Rattle.prv_general.proofs.Stages.{Told, values-fit, safes-fit, flags-fit, values-in, safes-in, literals-stand, literals-names, end-names, outs-stand}
@@ -86,7 +86,7 @@ returns-in_err-symbols-clause-names c = λ x turns here flags.
 pub returns-in_err-outs-clause-names : goal.returns-in_err-outs-clause-names
 returns-in_err-outs-clause-names c = λ x turns here flags.
     let passed = err_from_is_err_and c.from_residual-in_err-outs.result c.from_residual-in_err-outs.ensures.1 in
-    rw (passed.1, passed.2) (names-stop _ _ _ _ _ (then-refused _ _ _ _ (c.in_ok-symbols.ensures.names x turns here.events)))
+    rw (passed.1, passed.2) (names-stop {A = Unit {0}} _ _ _ _ _ (then-refused {B = Unit {0}} _ _ _ _ (c.in_ok-symbols.ensures.names x turns here.events)))
 
 pub returns-in_err-add_end-clause-names : goal.returns-in_err-add_end-clause-names
 returns-in_err-add_end-clause-names c = λ x turns here flags.
@@ -112,8 +112,8 @@ returns-in_err-literals-clause-names c = λ x turns here flags.
     let passed = err_from_is_err_and c.from_residual-in_err-literals.result c.from_residual-in_err-literals.ensures.1 in
     let count = c.len.ensures ∙ ap (λ (o : Outcome). length o.outs) here.outcome in
     let stand = c.in_ok-outs.ensures _ _ t.values in
-    rw (passed.1, passed.2) (three-calls _ _ _ _ _ _ _ _ _ _ (c.in_ok-symbols.ensures.names x turns here.events) (end-names _ _ _ _ _ _ _ _ t _ stand _ count _ _ _ c.in_ok-add_end.ensures.names)
-    (literals-names _ _ _ _ _ _ _ _ t c.add_end.new.pool.terms c.in_ok-add_end.ensures.names.kept _ _ _ c.in_err-literals.ensures.names))
+    rw (passed.1, passed.2) (refused _ _ _ _ (three-calls _ _ _ _ _ _ _ _ _ _ (c.in_ok-symbols.ensures.names x turns here.events) (end-names _ _ _ _ _ _ _ _ t _ stand _ count _ _ _ c.in_ok-add_end.ensures.names)
+    (literals-names _ _ _ _ _ _ _ _ t c.add_end.new.pool.terms c.in_ok-add_end.ensures.names.kept _ _ _ c.in_err-literals.ensures.names)))
 
 pub returns-clause-literals : goal.returns-clause-literals
 returns-clause-literals c = λ x turns here flags.
