@@ -10,12 +10,14 @@ use Rattle.prv_pool.specs.Tables.{Table}
 use Rattle.prv_pool.specs.declared.error.PoolError.{PoolError}
 use Rattle.prv_run.specs.Runs.{run_of, events}
 use Rattle.prv_run.specs.declared.event.Event.{Event}
+use Rattle.prv_run.specs.declared.event.Traced.{Traced}
 use Rattle.prv_select.specs.Choices.{choose, nothing}
 use Rattle.prv_select.proofs.Flags.{one-flag-each}
 use Rattle.prv_sym.specs.Calls.{Names, AllStand}
 use Rattle.prv_sym.specs.Named.{run_symbols}
 use Rattle.prv_sym.specs.Symbols.{Symbol, start_terms}
 use Rattle.prv_sym.proofs.Naming.{Grows, names-as}
+use Rattle.prv_general.specs.Answers.{IsTraced}
 use Rattle.prv_general.specs.Slices.{literals, literals_named, out_terms, end_terms, says_something}
 use Rattle.prv_general.specs.Walks.{conditions, condition_names, event_outs, flagged, if_kept, along, symbols_at, end_by}
 use Rattle.prv_general.proofs.Standing.{all-on, all-in, all-long, symbols-are}
@@ -28,6 +30,19 @@ pub record Told (p : Program) (turns : ℕ) (x : List ℤ) (terms : List Term) (
   pub flags : kept ≡ (choose (run_of p turns x) nothing).kept
   pub values : AllStand terms vs (map (λ s. s.term) (run_symbols (run_of p turns x) (start_terms p)))
   pub safes : AllStand terms ss (map (λ s. s.safe) (run_symbols (run_of p turns x) (start_terms p)))
+
+-- the same, by what the calls say of the lists that they answer
+pub told-of : (p : Program) (turns : ℕ) (x : List ℤ) (terms : List Term) (traced : Traced) (told : List Event) (kept : List Bool) (vs ss values safes : List ℕ) → IsTraced p turns x traced →
+    kept ≡ (choose (run_of p turns x) nothing).kept → told ≡ traced.events → vs ≡ values → ss ≡ safes →
+    AllStand terms values (map (λ s. s.term) (run_symbols (run_of p turns x) (start_terms p))) → AllStand terms safes (map (λ s. s.safe) (run_symbols (run_of p turns x) (start_terms p))) →
+    Told p turns x terms told kept vs ss
+told-of p turns x terms traced told kept vs ss values safes here flags same v s stand safe = record {
+  input = here.input;
+  events = same ∙ here.events;
+  flags = flags;
+  values = subst (λ (ns : List ℕ). AllStand terms ns (map (λ s. s.term) (run_symbols (run_of p turns x) (start_terms p)))) (sym v) stand;
+  safes = subst (λ (ns : List ℕ). AllStand terms ns (map (λ s. s.safe) (run_symbols (run_of p turns x) (start_terms p)))) (sym s) safe;
+}
 
 module _ (p : Program) (turns : ℕ) (x : List ℤ) (terms : List Term) (told : List Event) (kept : List Bool) (values safes : List ℕ) (t : Told p turns x terms told kept values safes) where
   pub values-fit : length values ≡ length told

@@ -46,47 +46,23 @@ returns-in_err-nodes-clause-names c =
     let passed = err_from_is_err_and c.from_residual-in_err-nodes.result c.from_residual-in_err-nodes.ensures.1 in
     rw (passed.1, passed.2) (refused _ _ _ _ (c.in_err-nodes.ensures.names x c.args.turns here flags))
 
-pub returns-clause-slice : goal.returns-clause-slice
-returns-clause-slice c =
+pub returns : goal.returns
+returns c =
     let p = c.args.program.now in
     let x = c.args.input.now in
     let told = c.in_ok-traced.ensures.events in
     let here : IsTraced p c.args.turns x c.in_ok-traced.traced = record { input = record { long = c.requires; words = c.as_slice.ensures.words }; events = told; outcome = c.in_ok-traced.ensures.outcome } in
     let flags : c.as_slice-2.result.now ≡ (choose (run_of p c.args.turns x) nothing).kept = c.as_slice-2.ensures ∙ c.in_ok-chosen.ensures.events x c.args.turns told c.in_ok-deps.ensures in
+    let how = ap (λ (o : Outcome). o.how) c.in_ok-traced.ensures.outcome in
+    let stand = c.in_ok-nodes.ensures.literals x c.args.turns here flags in
+    let out = c.in_ok-nodes.ensures.outs x c.args.turns here flags in
+    let literals = all-terms _ _ _ stand in
+    let outs = all-terms _ _ _ out in
     record {
-      literals = c.in_ok-nodes.ensures.literals x c.args.turns here flags;
-      outs = c.in_ok-nodes.ensures.outs x c.args.turns here flags;
-      how = ap (λ (o : Outcome). o.how) c.in_ok-traced.ensures.outcome;
-      marks = c.in_ok-chosen.ensures.marks x c.args.turns told c.in_ok-deps.ensures;
+      slice = record { literals = stand; outs = out; how = how; marks = c.in_ok-chosen.ensures.marks x c.args.turns told c.in_ok-deps.ensures };
+      fixes = λ y is h.
+          fixes-outcome p c.args.turns x y here.input is (ap (λ (ts : List Term). holds ts y) (sym literals) ∙ h)
+          ∙ (λ i. record { outs = map (λ t. term_value t y) (sym outs i); how = sym how i });
+      member = ap (λ (ts : List Term). holds ts x) literals ∙ holds-member p c.args.turns x here.input;
+      names = answered _ _ _ _ _ (c.in_ok-nodes.ensures.names x c.args.turns here flags);
     }
-
-pub returns-clause-fixes : goal.returns-clause-fixes
-returns-clause-fixes c = λ y is h.
-    let p = c.args.program.now in
-    let x = c.args.input.now in
-    let told = c.in_ok-traced.ensures.events in
-    let here : IsTraced p c.args.turns x c.in_ok-traced.traced = record { input = record { long = c.requires; words = c.as_slice.ensures.words }; events = told; outcome = c.in_ok-traced.ensures.outcome } in
-    let flags : c.as_slice-2.result.now ≡ (choose (run_of p c.args.turns x) nothing).kept = c.as_slice-2.ensures ∙ c.in_ok-chosen.ensures.events x c.args.turns told c.in_ok-deps.ensures in
-    let literals = all-terms _ _ _ (c.in_ok-nodes.ensures.literals x c.args.turns here flags) in
-    let outs = all-terms _ _ _ (c.in_ok-nodes.ensures.outs x c.args.turns here flags) in
-    fixes-outcome p c.args.turns x y here.input is (ap (λ (ts : List Term). holds ts y) (sym literals) ∙ h)
-    ∙ (λ i. record { outs = map (λ t. term_value t y) (sym outs i); how = sym (ap (λ (o : Outcome). o.how) c.in_ok-traced.ensures.outcome) i })
-
-pub returns-clause-member : goal.returns-clause-member
-returns-clause-member c =
-    let p = c.args.program.now in
-    let x = c.args.input.now in
-    let told = c.in_ok-traced.ensures.events in
-    let here : IsTraced p c.args.turns x c.in_ok-traced.traced = record { input = record { long = c.requires; words = c.as_slice.ensures.words }; events = told; outcome = c.in_ok-traced.ensures.outcome } in
-    let flags : c.as_slice-2.result.now ≡ (choose (run_of p c.args.turns x) nothing).kept = c.as_slice-2.ensures ∙ c.in_ok-chosen.ensures.events x c.args.turns told c.in_ok-deps.ensures in
-    let literals = all-terms _ _ _ (c.in_ok-nodes.ensures.literals x c.args.turns here flags) in
-    ap (λ (ts : List Term). holds ts x) literals ∙ holds-member p c.args.turns x here.input
-
-pub returns-clause-names : goal.returns-clause-names
-returns-clause-names c =
-    let p = c.args.program.now in
-    let x = c.args.input.now in
-    let told = c.in_ok-traced.ensures.events in
-    let here : IsTraced p c.args.turns x c.in_ok-traced.traced = record { input = record { long = c.requires; words = c.as_slice.ensures.words }; events = told; outcome = c.in_ok-traced.ensures.outcome } in
-    let flags : c.as_slice-2.result.now ≡ (choose (run_of p c.args.turns x) nothing).kept = c.as_slice-2.ensures ∙ c.in_ok-chosen.ensures.events x c.args.turns told c.in_ok-deps.ensures in
-    answered _ _ _ _ _ (c.in_ok-nodes.ensures.names x c.args.turns here flags)
