@@ -2,3 +2,4 @@ pub mod Following
 pub mod Numbers
 pub mod OneAnswer
 pub mod OneEach
+pub mod Standing

@@ -14,6 +14,7 @@ five-is-read (refusal.Usage word) is = cc
 five-is-read (refusal.File who why) is = cc
 five-is-read (refusal.Pair why) is = cc
 five-is-read (refusal.Inputs given wanted) is = cc
+five-is-read (refusal.Slice bound) is = cc
 
 pub six-is-write : (why : Refusal) → refusal_number why ≡ 6 → why ≡ refusal.Write
 six-is-write refusal.Read is = cc
@@ -24,6 +25,7 @@ six-is-write (refusal.Usage word) is = cc
 six-is-write (refusal.File who why) is = cc
 six-is-write (refusal.Pair why) is = cc
 six-is-write (refusal.Inputs given wanted) is = cc
+six-is-write (refusal.Slice bound) is = cc
 
 pub no-read : (A : Type 0) (why : Refusal) (P : Type 0) → (why ≡ refusal.Read → ⊥) → UnlessRead {A = A} (Err why) P → P
 no-read A refusal.Read P never h = absurd (never refl)
@@ -34,6 +36,7 @@ no-read A (refusal.Usage word) P never h = h
 no-read A (refusal.File who why) P never h = h
 no-read A (refusal.Pair why) P never h = h
 no-read A (refusal.Inputs given wanted) P never h = h
+no-read A (refusal.Slice bound) P never h = h
 
 pub no-write : (A : Type 0) (why : Refusal) (P : Type 0) → (why ≡ refusal.Write → ⊥) → UnlessWrite {A = A} (Err why) P → P
 no-write A refusal.Read P never h = h
@@ -44,3 +47,4 @@ no-write A (refusal.Usage word) P never h = h
 no-write A (refusal.File who why) P never h = h
 no-write A (refusal.Pair why) P never h = h
 no-write A (refusal.Inputs given wanted) P never h = h
+no-write A (refusal.Slice bound) P never h = h

@@ -107,6 +107,7 @@ single-write told bytes t u (Ok a) (Err refusal.Later) x y = absurd y
 single-write told bytes t u (Ok a) (Err (refusal.File who why)) x y = absurd y
 single-write told bytes t u (Ok a) (Err (refusal.Pair why)) x y = absurd y
 single-write told bytes t u (Ok a) (Err (refusal.Inputs given wanted)) x y = absurd y
+single-write told bytes t u (Ok a) (Err (refusal.Slice bound)) x y = absurd y
 single-write told bytes t u (Ok a) (Err refusal.Read) x y = absurd y
 single-write told bytes t u (Ok a) (Err refusal.Memory) x y = absurd y
 single-write told bytes t u (Err (refusal.Usage word)) b x y = absurd x
@@ -114,6 +115,7 @@ single-write told bytes t u (Err refusal.Later) b x y = absurd x
 single-write told bytes t u (Err (refusal.File who why)) b x y = absurd x
 single-write told bytes t u (Err (refusal.Pair why)) b x y = absurd x
 single-write told bytes t u (Err (refusal.Inputs given wanted)) b x y = absurd x
+single-write told bytes t u (Err (refusal.Slice bound)) b x y = absurd x
 single-write told bytes t u (Err refusal.Read) b x y = absurd x
 single-write told bytes t u (Err refusal.Memory) b x y = absurd x
 
@@ -133,6 +135,7 @@ read-refusal who known (refusal.Usage word) h = absurd h
 read-refusal who known refusal.Later h = absurd h
 read-refusal who known (refusal.Pair why) h = absurd h
 read-refusal who known (refusal.Inputs given wanted) h = absurd h
+read-refusal who known (refusal.Slice bound) h = absurd h
 read-refusal who known refusal.Write h = absurd h
 
 -- a file that is told holds one text, within the limit or past it
@@ -176,6 +179,7 @@ version-refusal who bytes (refusal.Usage word) h = absurd h
 version-refusal who bytes refusal.Later h = absurd h
 version-refusal who bytes (refusal.Pair why) h = absurd h
 version-refusal who bytes (refusal.Inputs given wanted) h = absurd h
+version-refusal who bytes (refusal.Slice bound) h = absurd h
 version-refusal who bytes refusal.Read h = absurd h
 version-refusal who bytes refusal.Write h = absurd h
 

@@ -1,5 +1,5 @@
 -- Where all files are told, each command does one thing and has one answer, but for faults and want of memory.
-use Rattle.std.proofs.Common.{◌≡◌, ◌≢◌, ◌⊎◌, inl, inr, ℕ, List, ℤ, Result, refl, sym, ap, ◌∙◌, subst}
+use Rattle.std.proofs.Common.{◌≡◌, ◌≢◌, ◌⊎◌, inl, inr, ℕ, List, ℤ, Result, refl, sym, ap, ◌∙◌, subst, arith}
 use Rattle.std.proofs.Props.{props}
 use Rattle.prv_io.specs.Files.{Unknown}
 use Rattle.prv_model.specs.Programs.{IsPair}
@@ -23,9 +23,12 @@ use Rattle.prv_cli.specs.Steps.{Told, Trace, ◌>>=◌, Shown, writes, answers}
 use Rattle.prv_cli.specs.Readings.{version, fits, IsMemory}
 use Rattle.prv_cli.specs.Runs.{show_run, run}
 use Rattle.prv_cli.specs.Points.{Makes, MakesNone, pair_of, IsPoint, show_point, point}
+use Rattle.prv_cli.specs.Slices.{ShowsSlice, PassesBound, ShowsNone, show_slice, slice}
 use Rattle.prv_cli.specs.Commands.{not_built, does, ReadsNone, command, says}
 use Rattle.prv_cli.specs.Answers.{IsFree}
 use Rattle.prv_cli.specs.declared.status.Status.{Status}
+use Rattle.prv_cli.specs.declared.refusal.Bound.{Bound}
+use Rattle.prv_cli.specs.declared.refusal.Bound.TheVariants.{Nodes, Literals}
 use Rattle.prv_cli.specs.declared.refusal.Refusal.{Refusal}
 use Rattle.prv_cli.specs.declared.refusal.Refusal.TheVariants as refusal
 use Rattle.prv_cli.specs.declared.refusal.Who.TheVariants.{Old, New, Only}
@@ -67,6 +70,7 @@ pair-refusal before after refusal.Memory h = absurd h
 pair-refusal before after (refusal.Usage word) h = absurd h
 pair-refusal before after refusal.Later h = absurd h
 pair-refusal before after (refusal.Inputs given wanted) h = absurd h
+pair-refusal before after (refusal.Slice bound) h = absurd h
 pair-refusal before after refusal.Read h = absurd h
 pair-refusal before after refusal.Write h = absurd h
 
@@ -99,13 +103,63 @@ single-point told before after input all =
     single-then told (fits input pair.before.params) _ (single-fits told input pair.before.params) (λ _.
     single-answers told (IsPoint pair input) IsMemory (one-point pair input) (λ a e x y. memory-free e y) (λ e f x y. inr (inl (memory-free e x)))))))
 
+-- a bound that a slice passes, as a refusal
+abbrev Unshown : Program → List ℤ → Refusal → Type 0
+Unshown program input e = IsFree e ⊎ ((bound : Bound) × (e ≡ refusal.Slice bound) × PassesBound program input bound)
+
+slice-refusal : (program : Program) (input : List ℤ) (e : Refusal) → ShowsNone program input e → Unshown program input e
+slice-refusal program input (refusal.Slice bound) h = inr (bound, refl, h)
+slice-refusal program input refusal.Memory h = inl tt
+slice-refusal program input (refusal.Usage word) h = absurd h
+slice-refusal program input refusal.Later h = absurd h
+slice-refusal program input (refusal.File who why) h = absurd h
+slice-refusal program input (refusal.Pair why) h = absurd h
+slice-refusal program input (refusal.Inputs given wanted) h = absurd h
+slice-refusal program input refusal.Read h = absurd h
+slice-refusal program input refusal.Write h = absurd h
+
+-- a slice that is shown passes no bound, and else it passes one
+within-bounds : (program : Program) (input : List ℤ) (shown : Shown) (bound : Bound) → ShowsSlice program input shown → PassesBound program input bound → ⊥
+within-bounds program input shown Nodes shows passed = omega (arith, shows.nodes)
+within-bounds program input shown Literals shows passed = omega (arith, shows.literals, passed.1)
+
+one-bound : (program : Program) (input : List ℤ) (a b : Bound) → PassesBound program input a → PassesBound program input b → a ≡ b
+one-bound program input Nodes Nodes x y = refl
+one-bound program input Nodes Literals x y = absurd (omega (arith, y.0))
+one-bound program input Literals Nodes x y = absurd (omega (arith, x.0))
+one-bound program input Literals Literals x y = refl
+
+single-show_slice : (told : Told) (program : Program) (input : List ℤ) → Single told (show_slice program input)
+single-show_slice told program input = single-answers told (ShowsSlice program input) (ShowsNone program input) (λ a b x y. x.shown_is ∙ sym y.shown_is) apart refused
+  where
+    apart : (a : Shown) (e : Refusal) → ShowsSlice program input a → ShowsNone program input e → IsFree e
+    apart a e shows h = by (slice-refusal program input e h)
+      where
+        by : Unshown program input e → IsFree e
+        by (inl free) = free
+        by (inr (bound, _, passed)) = absurd (within-bounds program input a bound shows passed)
+
+    refused : (e f : Refusal) → ShowsNone program input e → ShowsNone program input f → AgreeRefusals e f
+    refused e f x y = by (slice-refusal program input e x) (slice-refusal program input f y)
+      where
+        by : Unshown program input e → Unshown program input f → AgreeRefusals e f
+        by (inl free) other = inr (inl free)
+        by (inr same) (inl free) = inr (inr free)
+        by (inr (a, same, is)) (inr (b, equal, too)) = inl (same ∙ ap (λ (bound : Bound). refusal.Slice bound) (one-bound program input a b is too) ∙ sym equal)
+
+single-slice : (told : Told) (file : List ℕ) (input : List ℤ) → AllTold told → Single told (slice file input)
+single-slice told file input all =
+    single-then told (version Only file) _ (single-version told Only file (all file)) (λ v.
+    single-then told (fits input v.program.params) _ (single-fits told input v.program.params) (λ _.
+    single-show_slice told v.program input))
+
 single-later : (told : Told) → Single told not_built
 single-later told = single-answers told (λ _. ⊥) (λ why. why ≡ refusal.Later) (λ a b x y. absurd x) (λ a e x y. absurd x) (λ e f x y. inl (x ∙ sym y))
 
 single-does : (told : Told) (c : Command) → AllTold told → Single told (does c)
 single-does told (Run file input) all = single-then told (run file input) writes (single-run told file input all) (single-writes told)
 single-does told (Point before after input) all = single-then told (point before after input) writes (single-point told before after input all) (single-writes told)
-single-does told (Slice file input) all = single-later told
+single-does told (Slice file input) all = single-then told (slice file input) writes (single-slice told file input all) (single-writes told)
 single-does told (Explore before after settings) all = single-later told
 single-does told (Live before after settings) all = single-later told
 single-does told (Resume journal lines settlements workers) all = single-later told
@@ -122,6 +176,7 @@ word-refusal words (refusal.File who why) h = absurd h
 word-refusal words (refusal.Pair why) h = absurd h
 word-refusal words refusal.Later h = absurd h
 word-refusal words (refusal.Inputs given wanted) h = absurd h
+word-refusal words (refusal.Slice bound) h = absurd h
 word-refusal words refusal.Read h = absurd h
 word-refusal words refusal.Write h = absurd h
 

@@ -1,11 +1,12 @@
 -- What each command does.
 use Rattle.std.specs.Prelude.{◌≡◌, ℕ, List, ⊤}
-use Rattle.prv_line.specs.Commands.{Command, Run, Point}
+use Rattle.prv_line.specs.Commands.{Command, Run, Point, Slice}
 use Rattle.prv_line.specs.Readings.{Reads}
 use Rattle.prv_line.specs.Usages.{IsUsage}
 use Rattle.prv_cli.specs.Steps.{Step, writes, answers, ◌>>=◌}
 use Rattle.prv_cli.specs.Runs.{run}
 use Rattle.prv_cli.specs.Points.{point}
+use Rattle.prv_cli.specs.Slices.{slice}
 use Rattle.prv_cli.specs.declared.status.Status.{Status}
 use Rattle.prv_cli.specs.declared.refusal.Refusal.{Refusal}
 use Rattle.prv_cli.specs.declared.refusal.Refusal.TheVariants as refusal
@@ -18,6 +19,7 @@ not_built = answers (λ _. ⊥) (λ why. why ≡ refusal.Later)
 abbrev pub does : Command → Step Status
 does (Run file input) = run file input >>= writes
 does (Point before after input) = point before after input >>= writes
+does (Slice file input) = slice file input >>= writes
 does _ = not_built
 
 -- why words read as no command

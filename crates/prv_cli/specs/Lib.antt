@@ -4,5 +4,6 @@ pub mod Steps
 pub mod Readings
 pub mod Runs
 pub mod Points
+pub mod Slices
 pub mod Commands
 pub mod Answers

@@ -13,6 +13,8 @@ use Rattle.prv_version.specs.declared.error.FileRefusal.TheVariants as file
 use Rattle.prv_text.specs.Lines.{line}
 use Rattle.prv_cli.specs.declared.refusal.Who.{Who}
 use Rattle.prv_cli.specs.declared.refusal.Who.TheVariants.{Old, New, Only}
+use Rattle.prv_cli.specs.declared.refusal.Bound.{Bound}
+use Rattle.prv_cli.specs.declared.refusal.Bound.TheVariants.{Nodes, Literals}
 use Rattle.prv_cli.specs.declared.refusal.Refusal.{Refusal}
 use Rattle.prv_cli.specs.declared.refusal.Refusal.TheVariants as refusal
 
@@ -23,6 +25,7 @@ refusal_number refusal.Later = 3
 refusal_number (refusal.File who why) = 4
 refusal_number (refusal.Pair why) = 4
 refusal_number (refusal.Inputs given wanted) = 4
+refusal_number (refusal.Slice bound) = 4
 refusal_number refusal.Read = 5
 refusal_number refusal.Write = 6
 refusal_number refusal.Memory = 9
@@ -58,6 +61,10 @@ abbrev pub side_text : Side → List ℕ
 side_text Before = codes "old"
 side_text After = codes "new"
 
+abbrev pub bound_text : Bound → List ℕ
+bound_text Nodes = codes "nodes"
+bound_text Literals = codes "literals"
+
 abbrev pub pair_text : PairError → List ℕ
 pair_text (pair.Params before after) = codes "pair: params " ++ decimal before ++ codes " and " ++ decimal after
 pair_text (pair.MarkTwice side mark) = side_text side ++ codes ": mark " ++ decimal mark ++ codes " twice"
@@ -70,6 +77,7 @@ refusal_text refusal.Later = codes "later"
 refusal_text (refusal.File who why) = who_text who ++ codes ": " ++ file_text why
 refusal_text (refusal.Pair why) = pair_text why
 refusal_text (refusal.Inputs given wanted) = codes "inputs " ++ decimal given ++ codes " wanted " ++ decimal wanted
+refusal_text (refusal.Slice bound) = codes "slice " ++ bound_text bound
 refusal_text refusal.Read = codes "read fault"
 refusal_text refusal.Write = codes "write fault"
 refusal_text refusal.Memory = codes "memory"

@@ -9,6 +9,7 @@ use crate::point::compare_at;
 use crate::refusal::Refusal;
 use crate::report::write_report;
 use crate::run::run_file;
+use crate::slice::slice_file;
 use crate::status::Status;
 use prv_io::{Files, Sink};
 use prv_line::{Command, LineError, read_words};
@@ -60,7 +61,10 @@ fn perform<F: Files, O: Sink>(
             let report = compare_at(alloc, files, before, after, input)?;
             write_report(out, &report)
         }
-        Command::Slice { .. } => Err(Refusal::Later),
+        Command::Slice { file, input } => {
+            let report = slice_file(alloc, files, file, input)?;
+            write_report(out, &report)
+        }
         Command::Explore { .. } => Err(Refusal::Later),
         Command::Live { .. } => Err(Refusal::Later),
         Command::Resume { .. } => Err(Refusal::Later),

@@ -9,6 +9,7 @@ mod refusal;
 mod refusal_line;
 mod report;
 mod run;
+mod slice;
 mod status;
 #[cfg(test)]
 mod tests;

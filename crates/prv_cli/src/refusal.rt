@@ -17,6 +17,15 @@ pub enum Who {
     Only,
 }
 
+/// The bound that a slice passes.
+#[derive(Clone, Copy, Debug, PartialEq, Eq)]
+pub enum Bound {
+    /// That on the nodes of the table of terms.
+    Nodes,
+    /// That on literals.
+    Literals,
+}
+
 /// Why the program doesn't show what it is asked for.
 #[derive(Clone, Copy, Debug, PartialEq, Eq)]
 pub enum Refusal {
@@ -30,6 +39,8 @@ pub enum Refusal {
     Pair(PairError),
     /// The input has another number of words than the program has parameters.
     Inputs { given: usize, wanted: u8 },
+    /// The slice passes a bound.
+    Slice(Bound),
     /// A file couldn't be read.
     Read,
     /// What was to be shown couldn't be written.
@@ -58,7 +69,8 @@ impl Refusal {
             | Refusal::Inputs {
                 given: _,
                 wanted: _,
-            } => 4,
+            }
+            | Refusal::Slice(_) => 4,
             Refusal::Read => 5,
             Refusal::Write => 6,
             Refusal::Memory => 9,

@@ -1,9 +1,9 @@
 //! The lines of refusals. They take no memory.
 ghost use Rattle.std.specs.Prelude.{◌≡◌, ◌≤◌, ◌+◌, ◌++◌, length};
 ghost use Rattle.arrayvec.specs.ArrayString.{array_string_len};
-ghost use Rattle.prv_cli.specs.Refusals.{who_text, lex_text, what_text, file_text, side_text, pair_text, refusal_text, refusal_line};
+ghost use Rattle.prv_cli.specs.Refusals.{who_text, lex_text, what_text, file_text, side_text, bound_text, pair_text, refusal_text, refusal_line};
 
-use crate::refusal::{Refusal, Who};
+use crate::refusal::{Bound, Refusal, Who};
 use arrayvec::ArrayString;
 use itoa::{Buffer, Integer};
 use prv_lex::LexWhy;
@@ -45,6 +45,10 @@ fn push_refusal(line: &mut Line, refusal: Refusal)
         Refusal::Inputs { given, wanted } => {
             push_labelled(line, "inputs ", given);
             push_labelled(line, " wanted ", wanted);
+        }
+        Refusal::Slice(bound) => {
+            line.push_str("slice ");
+            line.push_str(bound_str(bound));
         }
         Refusal::Read => line.push_str("read fault"),
         Refusal::Write => line.push_str("write fault"),
@@ -139,6 +143,16 @@ fn side_str(side: Side) -> &'static str
     match side {
         Side::Before => "old",
         Side::After => "new",
+    }
+}
+
+fn bound_str(bound: Bound) -> &'static str
+    ensures text { result.now ≡ bound_text bound }
+    ensures short { length result.now ≤ 8 }
+{
+    match bound {
+        Bound::Nodes => "nodes",
+        Bound::Literals => "literals",
     }
 }
 

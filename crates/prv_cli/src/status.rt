@@ -9,7 +9,7 @@ use prv_model::{Entry, Kind};
 /// What the program's end says of what was shown.
 #[derive(Clone, Copy, Debug, PartialEq, Eq)]
 pub enum Status {
-    /// A run was shown, or each entry is Same or Empty.
+    /// A run or a slice was shown, or each entry is Same or Empty.
     Done,
     /// An entry is Different.
     Different,

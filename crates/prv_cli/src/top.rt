@@ -14,10 +14,11 @@ use std::alloc::Global;
 /// Does all that the program does, and answers its status.
 ///
 /// 0, 1 and 2: what was asked for was shown. Of a list of entries 1 says that one is Different, 0 that each is
-/// Same or Empty, and 2 that neither holds; a run that was shown has 0. 3: the words have no reading, or ask for
-/// a command that isn't built yet. 4: a file is refused, the versions make no pair, or the input has another
-/// number of words than the program has parameters. 5: a file couldn't be read. 6: what is shown couldn't be
-/// written. 9: out of memory. Under 3 and above a line goes to `err`, and a failure of `err` changes nothing.
+/// Same or Empty, and 2 that neither holds; a run or a slice that was shown has 0. 3: the words have no reading,
+/// or ask for a command that isn't built yet. 4: a file is refused, the versions make no pair, the input has
+/// another number of words than the program has parameters, or the slice passes a bound. 5: a file couldn't be
+/// read. 6: what is shown couldn't be written. 9: out of memory. Under 3 and above a line goes to `err`, and a
+/// failure of `err` changes nothing.
 pub fn plain<F: Files, O: Sink, E: Sink>(
     alloc: Global,
     words: &[&str],

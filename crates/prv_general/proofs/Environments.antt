@@ -18,7 +18,8 @@ use Rattle.prv_dep.specs.Dependences.{has, writes, node_writes}
 use Rattle.prv_dep.proofs.DependenceLaws.{and-left, and-right, neither-left, lacks-left, lacks-right, has-append}
 use Rattle.prv_run.specs.Runs.{Run, Use, runs, node_runs, loop_run, turn_run, branch, follow, where_goes, in_turn_run}
 use Rattle.prv_sym.specs.Symbols.{symbol, after, after_use}
-use Rattle.prv_sym.proofs.SymbolLaws.{AreTerms, symbol-said}
+use Rattle.prv_sym.specs.Judgements.{AreTerms}
+use Rattle.prv_sym.proofs.SymbolLaws.{symbol-said}
 
 -- the variables' terms, where only those of these variables may have changed
 pub record IsAfter (n : ℕ) (written : List ℕ) (env new : List Term) : Type 0 where
@@ -41,7 +42,7 @@ after-then n first rest env mid new a b = record {
 after-again : (n : ℕ) (written : List ℕ) (env mid new : List Term) → IsAfter n written env mid → IsAfter n written mid new → IsAfter n written env new
 after-again n written env mid new a b = record { size = b.size ∙ a.size; terms = b.terms; others = λ v e. b.others v e ∙ a.others v e }
 
-no-words : All IsWord []
+pub no-words : All IsWord []
 no-words k d below = absurd (omega (arith, below))
 
 set-other : (env : List Term) (w v : ℕ) (t : Term) → nat_eq v w ≡ false → slice_get (slice_set env w t) v ≡ slice_get env v
@@ -51,7 +52,7 @@ set-other (x ∷ env) zero (suc v) t e = refl
 set-other (x ∷ env) (suc w) zero t e = refl
 set-other (x ∷ env) (suc w) (suc v) t e = set-other env w v t (grind (arith, e))
 
-set-terms : (n : ℕ) (env : List Term) (w : ℕ) (t : Term) → AreTerms n env → IsTerm n t → AreTerms n (slice_set env w t)
+pub set-terms : (n : ℕ) (env : List Term) (w : ℕ) (t : Term) → AreTerms n env → IsTerm n t → AreTerms n (slice_set env w t)
 set-terms n [] w t h k = h
 set-terms n (x ∷ env) zero t h k = λ v. elim v as (λ u. IsTerm n (unwrap_or (slice_get (t ∷ env) u) (Num (pos 0)))) [ zero ↦ k | suc u ↦ h (suc u) ]
 set-terms n (x ∷ env) (suc w) t h k = λ v. elim v as (λ u. IsTerm n (unwrap_or (slice_get (x ∷ slice_set env w t) u) (Num (pos 0)))) [

@@ -1,4 +1,11 @@
 pub mod Environments
 pub mod Lockstep
 pub mod Members
+pub mod Saying
 pub mod SliceLaws
+pub mod SliceTerms
+pub mod Alongs
+pub mod Standing
+pub mod Making
+pub mod Whole
+pub mod Stages

@@ -25,7 +25,8 @@ use Rattle.prv_dep.specs.Dependences.{has, vars, may_fault, may_leave, node_may_
 use Rattle.prv_dep.proofs.DependenceLaws.{and-left, and-right, or-left, or-right, neither-left, neither-right, has-append, one-value, sure-value, IsQuiet, is-quiet}
 use Rattle.prv_run.specs.Runs.{Run, Use, runs, node_runs, evaluation, loop_run, turn_run, branch, follow, where_goes, in_turn_run}
 use Rattle.prv_sym.specs.Symbols.{symbol, after, after_use}
-use Rattle.prv_sym.proofs.SymbolLaws.{AreTerms, IsSaid, symbol-said, state_of, has_value, zero-flag}
+use Rattle.prv_sym.specs.Judgements.{AreTerms, IsSaid, state_of, has_value}
+use Rattle.prv_sym.proofs.SymbolLaws.{symbol-said, zero-flag}
 use Rattle.prv_select.specs.Choices.{Chosen, with_vars, without, keeps, needs, matters, choose, count, no_mark}
 use Rattle.prv_general.specs.Slices.{decided, literals_of, literals, outs_of, out_terms}
 use Rattle.prv_general.proofs.Environments.{IsAfter, is-after}

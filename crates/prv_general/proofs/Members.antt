@@ -19,7 +19,8 @@ use Rattle.prv_pool.proofs.FoldLaws.{negation-value, truth-value, truth-term}
 use Rattle.prv_dep.proofs.DependenceLaws.{and-left, and-right}
 use Rattle.prv_run.specs.Runs.{Run, Use, runs, node_runs, evaluation, loop_run, turn_run, branch, follow, where_goes, in_turn_run}
 use Rattle.prv_sym.specs.Symbols.{Symbol, symbol, after, after_use}
-use Rattle.prv_sym.proofs.SymbolLaws.{AreTerms, IsSaid, symbol-said, state_of, has_value, zero-flag}
+use Rattle.prv_sym.specs.Judgements.{AreTerms, IsSaid, state_of, has_value}
+use Rattle.prv_sym.proofs.SymbolLaws.{symbol-said, zero-flag}
 use Rattle.prv_select.specs.Choices.{keeps, matters, choose}
 use Rattle.prv_general.specs.Slices.{decided, literals_of, literals}
 use Rattle.prv_general.proofs.Environments.{IsAfter, is-after}

@@ -17,10 +17,12 @@ use Rattle.prv_model.specs.declared.term.Term.{Term, Term-F, fold-roll-Term}
 use Rattle.prv_model.specs.declared.term.Term.TheVariants.{Param, Num, rolls-Param}
 use Rattle.prv_run.specs.Runs.{Run, runs, run_of, in_turn_run}
 use Rattle.prv_sym.specs.Symbols.{params_from, start_terms}
-use Rattle.prv_sym.proofs.SymbolLaws.{AreTerms, state_of, num-term}
+use Rattle.prv_sym.specs.Judgements.{AreTerms, state_of}
+use Rattle.prv_sym.proofs.SymbolLaws.{num-term}
 use Rattle.prv_select.specs.Choices.{choose, nothing}
 use Rattle.prv_general.specs.Slices.{Slice, slice, literals, out_terms, end_terms}
 use Rattle.prv_general.proofs.Lockstep.{Meets, Locked, Locks, is-locked, block-locked}
+use Rattle.prv_general.proofs.Saying.{holds-filtered}
 use Rattle.prv_general.proofs.Members.{IsMember, Members, is-member, block-member}
 
 -- the parameters have the input's words
@@ -69,14 +71,14 @@ params-terms n (suc m) k rest h t = λ v. elim v as (λ u. IsTerm n (unwrap_or (
   | suc u ↦ params-terms n m (suc k) rest (omega (arith, h)) t u
 ]
 
-start-over : (p : Program) → AreTerms p.params (start_terms p)
+pub start-over : (p : Program) → AreTerms p.params (start_terms p)
 start-over p = params-terms p.params p.params 0 _ (omega arith) (zeros-terms p.params (length p.names - p.params))
 
 params-length : (k m : ℕ) → length (params_from k m) ≡ m
 params-length k zero = refl
 params-length k (suc m) = ap (λ (l : ℕ). suc l) (params-length (suc k) m)
 
-start-length : (p : Program) → p.params ≤ length p.names → length (start_terms p) ≡ length p.names
+pub start-length : (p : Program) → p.params ≤ length p.names → length (start_terms p) ≡ length p.names
 start-length p h = length-append (params_from 0 p.params) (replicate (length p.names - p.params) (Num (pos 0)))
     ∙ omega (arith, h, params-length 0 p.params, length-replicate (length p.names - p.params) (Num (pos 0)))
 
@@ -110,7 +112,8 @@ how-alike (Some how) a b = refl
 
 pub fixes-outcome : (p : Program) (turns : ℕ) (x y : List ℤ) → IsInput p.params x → IsInput p.params y → holds (slice p turns x).literals y ≡ true →
     outcome p turns y ≡ record { outs = map (λ t. term_value t y) (slice p turns x).outs; how = (slice p turns x).how }
-fixes-outcome p turns x y hx hy h =
+fixes-outcome p turns x y hx hy said =
+    let h : holds (literals (run_of p turns x) (start_terms p) nothing) y ≡ true = sym (holds-filtered (literals (run_of p turns x) (start_terms p) nothing) y) ∙ said in
     let kept : IsProgram p.params p.names p.body = p.kept in
     let n = p.params in
     let env = start_terms p in
@@ -148,4 +151,4 @@ holds-member p turns x hx =
     let P : List Stmt → Type 0 = λ body. all_true (map (λ s. stmt_over (length env) s) body) ≡ true in
     let m = block-member n x all 0 (start p turns x) env nothing (subst P (sym same) over) (start-over p) (start-state p turns x hx) in
     let Q : List Stmt → Type 0 = λ body. holds (literals (in_turn_run (map (λ s. (s, runs s)) body) 0 (start p turns x)) env nothing) x ≡ true in
-    subst Q same m.lits
+    holds-filtered (literals (run_of p turns x) env nothing) x ∙ subst Q same m.lits

@@ -1,1 +1,3 @@
 pub mod Slices
+pub mod Walks
+pub mod Answers

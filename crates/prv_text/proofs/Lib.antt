@@ -1,2 +1,4 @@
 pub mod Capped
 pub mod Spelling
+pub mod Writing
+pub mod Mapped

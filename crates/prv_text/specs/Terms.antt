@@ -33,6 +33,10 @@ pub record Spelled : Type 0 where
 abbrev pub operand : Spelled → List ℕ
 operand s = if s.compound then codes "(" ++ s.text ++ codes ")" else s.text
 
+-- an operator with a blank on each side
+abbrev pub between : TermOp → List ℕ
+between op = codes " " ++ symbol op ++ codes " "
+
 -- the name of a parameter
 abbrev pub name_of : List (List ℕ) → ℕ → List ℕ
 name_of names k = unwrap_or (slice_get names k) []
@@ -40,11 +44,11 @@ name_of names k = unwrap_or (slice_get names k) []
 -- one node, with the text of each child in its place
 abbrev pub node_spelled : List (List ℕ) → Term-F Spelled → Spelled
 node_spelled names (Term-F.Param k) = record { text = name_of names k; compound = false }
-node_spelled names (Term-F.Op op a b) = record { text = operand a ++ codes " " ++ symbol op ++ codes " " ++ operand b; compound = true }
+node_spelled names (Term-F.Op op a b) = record { text = operand a ++ between op ++ operand b; compound = true }
 node_spelled names (Term-F.Pick test chosen other) = record { text = operand test ++ codes " ? " ++ operand chosen ++ codes " : " ++ operand other; compound = true }
 node_spelled names (Term-F.Num n) = record { text = signed_decimal n; compound = false }
 
--- a term, written infix with one blank on each side of an operator
+-- a term, written infix
 abbrev pub spelled : List (List ℕ) → Term → Spelled
 spelled names = fold-Term Spelled (node_spelled names)
 

@@ -1,4 +1,4 @@
-//! The texts that are shown: of terms, entries, reports and outcomes. Each call that writes adds to a vector.
+//! The texts that are shown: of terms, entries, reports, outcomes and slices. Each call that writes adds to a vector.
 //!
 //! The text of a term is made with a limit, never whole and then cut: a few shared nodes can stand for a text of
 //! gigabytes. Each text is a function of `specs/`, and each call gives just that text.
@@ -6,16 +6,21 @@
 
 mod counts;
 mod entry;
+mod node;
 mod number;
 mod outcome;
+mod pieces;
 mod reports;
+mod slice;
 mod term;
 #[cfg(test)]
 mod tests;
 
 pub use counts::push_counts;
 pub use entry::{push_entry, push_marks};
+pub use node::push_node;
 pub use number::push_number;
 pub use outcome::outcome_text;
 pub use reports::{push_entries, report, report_entries};
+pub use slice::slice_text;
 pub use term::{push_literal, push_term};

@@ -1,8 +1,8 @@
 //! The text of what a run shows.
-ghost use Rattle.std.specs.Prelude.{◌≡◌, ◌++◌, IfOk, OnOk, ◌-◌, pos, length, unwrap_or, slice_get, flat_map, codes};
+ghost use Rattle.std.specs.Prelude.{◌≡◌, [], ◌++◌, IfOk, OnOk, flat_map, codes};
 ghost use Rattle.std.specs.Fmt.{signed_decimal};
 ghost use Rattle.prv_text.specs.Lines.{line};
-ghost use Rattle.prv_text.specs.Outcomes.{put_out, ending_text, outcome_text as text_of};
+ghost use Rattle.prv_text.specs.Outcomes.{put_before as put_before_of, last_text, ending_text, outcome_text as text_of};
 
 use crate::number::push_number;
 use prv_model::{Ending, Outcome};
@@ -13,18 +13,18 @@ pub fn outcome_text(alloc: Global, outcome: &Outcome) -> Result<Vec<u8>, AllocEr
     ensures { IfOk result (λ text. text.items ≡ text_of outcome.now) }
 {
     let mut out = Vec::new(alloc);
-    push_outs(&mut out, words_put_out(outcome))?;
-    push_ending(&mut out, outcome)?;
+    let outs = outcome.outs.as_slice();
+    push_outs(&mut out, put_before(outcome.how, outs))?;
+    push_ending(&mut out, outcome.how, outs)?;
     out.push(b'\n')?;
     Ok(out)
 }
 
-/// The words that a run put out, without the one that it returned.
-fn words_put_out(outcome: &Outcome) -> &[i32]
-    ensures { result.now ≡ put_out outcome.now }
+/// What was put out, without what was returned.
+pub(crate) fn put_before<T>(how: Ending, outs: &[T]) -> &[T]
+    ensures { result.now ≡ put_before_of how outs.now }
 {
-    let outs = outcome.outs.as_slice();
-    match outcome.how {
+    match how {
         Ending::Returned => &outs[..outs.len().saturating_sub(1)],
         _ => outs,
     }
@@ -50,26 +50,34 @@ fn push_out(out: &mut Vec<u8>, word: &i32) -> Result<(), AllocError>
 }
 
 /// Writes how a run ended, with the word that it returned.
-fn push_ending(out: &mut Vec<u8>, outcome: &Outcome) -> Result<(), AllocError>
-    ensures { OnOk result (out.new.items ≡ out.old.items ++ ending_text outcome.now.how outcome.now.outs) }
+fn push_ending(out: &mut Vec<u8>, how: Ending, words: &[i32]) -> Result<(), AllocError>
+    ensures { OnOk result (out.new.items ≡ out.old.items ++ ending_text how (last_text signed_decimal words.now)) }
 {
-    match outcome.how {
-        Ending::Returned => {
-            out.extend_from_slice(b"returned ")?;
-            push_number(out, last_word(outcome.outs.as_slice()))
-        }
-        Ending::Fault => out.extend_from_slice(b"fault"),
-        Ending::Assert => out.extend_from_slice(b"assert"),
-        Ending::Long => out.extend_from_slice(b"long"),
+    out.extend_from_slice(ending_word(how))?;
+    match how {
+        Ending::Returned => push_last(out, words),
+        _ => Ok(()),
     }
 }
 
-/// The last of some words, or 0 where there is none.
-fn last_word(words: &[i32]) -> i32
-    ensures { result ≡ unwrap_or (slice_get words.now (length words.now - 1)) (pos 0) }
+/// The word for an ending; behind that of a return stands what is returned.
+pub(crate) fn ending_word(how: Ending) -> &'static [u8]
+    ensures { result.now ≡ ending_text how [] }
+{
+    match how {
+        Ending::Returned => b"returned ",
+        Ending::Fault => b"fault",
+        Ending::Assert => b"assert",
+        Ending::Long => b"long",
+    }
+}
+
+/// Writes the last of some words.
+fn push_last(out: &mut Vec<u8>, words: &[i32]) -> Result<(), AllocError>
+    ensures { OnOk result (out.new.items ≡ out.old.items ++ last_text signed_decimal words.now) }
 {
     match words.last() {
-        None => 0,
-        Some(word) => *word,
+        None => Ok(()),
+        Some(word) => push_number(out, *word),
     }
 }

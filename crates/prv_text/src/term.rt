@@ -1,13 +1,13 @@
 //! The text of a term, made with a limit: a few shared nodes can stand for a text of gigabytes.
-ghost use Rattle.std.specs.Prelude.{◌≡◌, ℕ, List, ◌≤◌, ◌++◌, length, take, vec_len, OnOk, if◌then◌else◌};
-ghost use Rattle.prv_text.specs.Terms.{spelled, operand, symbol as symbol_of, cut, term_text, literal_text, name_of};
+ghost use Rattle.std.specs.Prelude.{◌≡◌, ℕ, List, ◌≤◌, ◌++◌, take, vec_len, OnOk};
+ghost use Rattle.prv_text.specs.Terms.{spelled, operand, term_text, literal_text};
 
-use itoa::Buffer;
-use prv_model::{Name, Term, TermOp};
+use crate::pieces::{cut_behind, push_between, push_capped, push_decimal, push_name};
+use prv_model::{Name, Term};
 use std::alloc::AllocError;
 
 /// The greatest length of a literal's text in bytes; a longer one is cut there.
-const LITERAL_BYTES: u32 = 80;
+pub(crate) const LITERAL_BYTES: u32 = 80;
 
 /// Writes the text of a literal, cut after 80 bytes.
 pub fn push_literal(out: &mut Vec<u8>, names: &[Name], term: &Term) -> Result<(), AllocError>
@@ -29,11 +29,7 @@ pub fn push_term(
 {
     let end = out.len() + limit as usize;
     push_spelled(out, names, term, end + 1)?;
-    if out.len() > end {
-        out.truncate(end);
-        out.extend_from_slice(b"..")?;
-    }
-    Ok(())
+    cut_behind(out, end)
 }
 
 /// Writes the text of a term, but no bytes past `end`.
@@ -54,9 +50,7 @@ fn push_spelled(
         Term::Param(k) => push_name(out, names, *k, end),
         Term::Op(op, a, b) => {
             push_operand(out, names, a.get(), end)?;
-            push_capped(out, b" ", end)?;
-            push_capped(out, symbol(*op), end)?;
-            push_capped(out, b" ", end)?;
+            push_between(out, *op, end)?;
             push_operand(out, names, b.get(), end)?;
             Ok(())
         }
@@ -68,10 +62,7 @@ fn push_spelled(
             push_operand(out, names, other.get(), end)?;
             Ok(())
         }
-        Term::Num(n) => {
-            let mut buffer = Buffer::new();
-            push_capped(out, buffer.format(*n).as_bytes(), end)
-        }
+        Term::Num(n) => push_decimal(out, *n, end),
     }
 }
 
@@ -103,49 +94,5 @@ fn is_compound(term: &Term) -> bool
     match term {
         Term::Param(_) | Term::Num(_) => false,
         Term::Op(_, _, _) | Term::Pick(_, _, _) => true,
-    }
-}
-
-fn push_name(out: &mut Vec<u8>, names: &[Name], k: u8, end: usize) -> Result<(), AllocError>
-    requires { vec_len out.old ≤ end }
-    ensures { OnOk result (out.new.items ≡ take end (out.old.items ++ name_of names.now k)) }
-{
-    match names.get(k as usize) {
-        None => Ok(()),
-        Some(name) => push_capped(out, name.as_bytes(), end),
-    }
-}
-
-/// Writes a piece, but no bytes past `end`.
-fn push_capped(out: &mut Vec<u8>, piece: &[u8], end: usize) -> Result<(), AllocError>
-    requires { vec_len out.old ≤ end }
-    ensures { OnOk result (out.new.items ≡ take end (out.old.items ++ piece.now)) }
-{
-    let room = end - out.len();
-    if piece.len() <= room {
-        out.extend_from_slice(piece)
-    } else {
-        out.extend_from_slice(&piece[..room])
-    }
-}
-
-fn symbol(op: TermOp) -> &'static [u8]
-    ensures { result.now ≡ symbol_of op }
-{
-    match op {
-        TermOp::Add => b"+",
-        TermOp::Sub => b"-",
-        TermOp::Mul => b"*",
-        TermOp::Div => b"/",
-        TermOp::Rem => b"%",
-        TermOp::Shl => b"<<",
-        TermOp::Shr => b">>",
-        TermOp::And => b"&",
-        TermOp::Or => b"|",
-        TermOp::Xor => b"^",
-        TermOp::Lt => b"<",
-        TermOp::Le => b"<=",
-        TermOp::Eq => b"==",
-        TermOp::Ne => b"!=",
     }
 }

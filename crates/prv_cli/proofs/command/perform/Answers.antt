@@ -3,6 +3,7 @@ use Rattle.std.proofs.lemmas.Result.{err_from_is_err_and}
 use Rattle.prv_cli.specs.Steps.{writes}
 use Rattle.prv_cli.specs.Runs.{run}
 use Rattle.prv_cli.specs.Points.{point}
+use Rattle.prv_cli.specs.Slices.{slice}
 use Rattle.prv_cli.specs.Commands.{not_built}
 use Rattle.prv_cli.specs.declared.refusal.Refusal.TheVariants.{Later}
 use Rattle.prv_cli.proofs.Following.{performs-refused, performs-writes, performs-nothing}
@@ -28,8 +29,15 @@ returns-in_ok-report-in-Point-clause-performed g c =
     let told = g.F.Files.known c.args.files.now in
     rw c.in-Point.is (performs-writes g.F.Files.reads told _ _ _ _ (point c.in-Point.before.now c.in-Point.after.now c.in-Point.input) c.in_ok-report-in-Point.report c.write_report-in-Point.result c.in_ok-report-in-Point.ensures.done (c.write_report-in-Point.ensures.written told))
 
-pub returns-in-Slice-clause-performed : goal.returns-in-Slice-clause-performed
-returns-in-Slice-clause-performed g c = rw c.in-Slice.is (performs-nothing g.F.Files.reads (g.F.Files.known c.args.files.now) _ _ not_built (Err Later) (refl, refl))
+pub returns-in_err-report-in-Slice-clause-performed : goal.returns-in_err-report-in-Slice-clause-performed
+returns-in_err-report-in-Slice-clause-performed g c =
+    let passed = err_from_is_err_and c.from_residual-in_err-report-in-Slice.result c.from_residual-in_err-report-in-Slice.ensures.1 in
+    rw (c.in-Slice.is, passed.1, passed.2) (performs-refused g.F.Files.reads (g.F.Files.known c.args.files.now) _ _ _ (slice c.in-Slice.file.now c.in-Slice.input) writes c.in_err-report-in-Slice.field-0.0 c.in_err-report-in-Slice.ensures.done)
+
+pub returns-in_ok-report-in-Slice-clause-performed : goal.returns-in_ok-report-in-Slice-clause-performed
+returns-in_ok-report-in-Slice-clause-performed g c =
+    let told = g.F.Files.known c.args.files.now in
+    rw c.in-Slice.is (performs-writes g.F.Files.reads told _ _ _ _ (slice c.in-Slice.file.now c.in-Slice.input) c.in_ok-report-in-Slice.report c.write_report-in-Slice.result c.in_ok-report-in-Slice.ensures.done (c.write_report-in-Slice.ensures.written told))
 
 pub returns-in-Explore-clause-performed : goal.returns-in-Explore-clause-performed
 returns-in-Explore-clause-performed g c = rw c.in-Explore.is (performs-nothing g.F.Files.reads (g.F.Files.known c.args.files.now) _ _ not_built (Err Later) (refl, refl))

@@ -1,6 +1,5 @@
 use Rattle.std.proofs.Common.{rules, ◌≡◌, ◌++◌, List, ℕ, take, codes, true, false, ap, sym, ◌∙◌}
-use Rattle.prv_text.specs.Terms.{spelled, operand, Spelled}
-use Rattle.prv_text.specs.Terms.{symbol as symbol_of}
+use Rattle.prv_text.specs.Terms.{spelled, operand, between, Spelled}
 use Rattle.prv_text.proofs.Capped.{take_more_of}
 use Rattle.prv_text.proofs.Spelling.{spelled-Op, spelled-Pick, operand-compound, operand-simple}
 use Rattle.prv_text.proofs.term.+term.Goals as goal
@@ -11,13 +10,10 @@ push_spelled-returns-in_ok-push_operand-in-Op-2 t c =
     let old = c.args.out.now.items in
     let names = c.args.names.now in
     let a = operand (spelled names c.in-Op.a) in
-    let symbol = symbol_of c.in-Op.op in
     let first = rw c.get.ensures at c.in_ok-push_operand-in-Op.ensures in
-    let e2 = take_more_of end old _ _ a (codes " ") first c.in_ok-push_capped-in-Op.ensures in
-    let e3 = take_more_of end old _ _ (a ++ codes " ") symbol e2 (rw c.symbol.ensures at c.in_ok-push_capped-in-Op-2.ensures) in
-    let e4 = take_more_of end old _ _ (a ++ codes " " ++ symbol) (codes " ") e3 c.in_ok-push_capped-in-Op-3.ensures in
-    let e5 = take_more_of end old _ _ (a ++ codes " " ++ symbol ++ codes " ") (operand (spelled names c.in-Op.b)) e4 (rw c.get-in-Op.ensures at c.in_ok-push_operand-in-Op-2.ensures) in
-    e5 ∙ ap (λ (s : Spelled). take end (old ++ s.text)) (sym (ap (spelled names) c.in-Op.is ∙ spelled-Op names c.in-Op.op c.in-Op.a c.in-Op.b))
+    let e2 = take_more_of end old _ _ a (between c.in-Op.op) first c.in_ok-push_between-in-Op.ensures in
+    let e3 = take_more_of end old _ _ (a ++ between c.in-Op.op) (operand (spelled names c.in-Op.b)) e2 (rw c.get-in-Op.ensures at c.in_ok-push_operand-in-Op-2.ensures) in
+    e3 ∙ ap (λ (s : Spelled). take end (old ++ s.text)) (sym (ap (spelled names) c.in-Op.is ∙ spelled-Op names c.in-Op.op c.in-Op.a c.in-Op.b))
 
 pub push_spelled-returns-in_ok-push_operand-in-Pick-3 : goal.push_spelled-returns-in_ok-push_operand-in-Pick-3
 push_spelled-returns-in_ok-push_operand-in-Pick-3 t c =
