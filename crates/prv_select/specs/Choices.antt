@@ -74,6 +74,10 @@ abbrev pub numbers_from : ℕ → ℕ → List ℕ
 numbers_from k zero = []
 numbers_from k (suc n) = k ∷ numbers_from (suc k) n
 
+-- the marks of a set below a number, in rising order
+unfoldable pub rising_below : (ℕ → Bool) → ℕ → List ℕ
+rising_below marks n = filter marks (numbers_from 0 n)
+
 -- the marks of a set in rising order; a mark is a number of one byte
 abbrev pub rising : (ℕ → Bool) → List ℕ
-rising marks = filter marks (numbers_from 0 256)
+rising marks = rising_below marks 256

@@ -29,7 +29,7 @@ outermost places rows needed (suc n) (Some k) =
 
 -- the `if` that a walk passes over at an evaluation in this scope, if it does
 abbrev pub skips : List Place → List Row → Walk → Scope → Option ℕ
-skips places rows walk scope = or_else walk.skipped (outermost places rows walk.needed (scope.depth - walk.open) scope.nearest)
+skips places rows walk scope = or_else walk.skipped (outermost places rows walk.needed (scope.depth - walk.entered) scope.nearest)
 
 -- a walk behind one evaluation, and whether it is kept
 pub record Passed : Type 0 where
@@ -63,11 +63,11 @@ chosen event row here walk =
 -- passing an evaluation inside an `if` that is passed over, which ends with its test
 abbrev pub passed_over : ℕ → Place → ℕ → Walk → Walk
 passed_over stmt here skipped walk =
-    if nat_eq stmt skipped then record walk { open = here.outer.depth; skipped = None } else record walk { skipped = Some skipped }
+    if nat_eq stmt skipped then record walk { entered = here.outer.depth; skipped = None } else record walk { skipped = Some skipped }
 
 abbrev pub passed_by : Option ℕ → Event → Row → Place → Walk → Passed
 passed_by (Some skipped) event row here walk = record { walk = passed_over event.stmt here skipped walk; kept = false }
-passed_by None event row here walk = chosen event row here (record walk { open = here.outer.depth })
+passed_by None event row here walk = chosen event row here (record walk { entered = here.outer.depth })
 
 -- passing an evaluation
 abbrev pub pass : List Place → List Row → Event → Walk → Passed

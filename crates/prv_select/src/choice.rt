@@ -1,7 +1,8 @@
-ghost use Rattle.std.specs.Prelude.{◌≡◌, ℕ, ℤ, List, IfOk, length, filter};
+ghost use Rattle.std.specs.Prelude.{◌≡◌, ℕ, ℤ, List, [], ◌∷◌, ◌++◌, ◌≤◌, IfOk, OnOk, length, filter};
 ghost use Rattle.prv_dep.specs.Tables.{dependences};
 ghost use Rattle.prv_run.specs.Runs.{run_of, events as events_of};
-ghost use Rattle.prv_select.specs.Choices.{choose, nothing, rising};
+ghost use Rattle.prv_select.specs.Choices.{choose, nothing, rising, rising_below};
+ghost use Rattle.prv_select.specs.Marks.{has_mark};
 
 use crate::marks::Marks;
 use crate::places::places;
@@ -40,7 +41,7 @@ pub fn select(
     let mut kept = none_kept(alloc, trace.events.len())?;
     let mut walk = Walk {
         needed: 0,
-        open: 0,
+        entered: 0,
         skipped: None,
         marks: Marks::none(),
     };
@@ -51,7 +52,7 @@ pub fn select(
     walk_back(trace.events.as_slice(), tables, &mut walk, &mut kept);
     Ok(Chosen {
         events: kept,
-        marks: rising_marks(alloc, walk.marks)?,
+        marks: marks_below(alloc, walk.marks, 256)?,
     })
 }
 
@@ -66,14 +67,24 @@ fn none_kept(alloc: Global, count: usize) -> Result<Items<bool>, AllocError>
     Ok(kept)
 }
 
-/// The marks of a set, in rising order.
-fn rising_marks(alloc: Global, marks: Marks) -> Result<Items<u8>, AllocError>
+/// The marks of a set below this number, in rising order.
+fn marks_below(alloc: Global, marks: Marks, count: u16) -> Result<Items<u8>, AllocError>
+    requires { count ≤ 256 }
+    ensures { IfOk result (λ rising. rising ≡ rising_below (λ m. has_mark marks m) count) }
 {
     let mut rising = Items::new(alloc);
-    for mark in 0..=u8::MAX {
-        if marks.has(mark) {
-            rising.push(mark)?;
-        }
+    for mark in 0..count {
+        push_mark(marks, mark as u8, &mut rising)?;
     }
     Ok(rising)
+}
+
+/// Pushes a mark, if it is in a set.
+fn push_mark(marks: Marks, mark: u8, rising: &mut Items<u8>) -> Result<(), AllocError>
+    ensures { OnOk result (rising.new ≡ rising.old ++ filter (λ m. has_mark marks m) (mark ∷ [])) }
+{
+    if marks.has(mark) {
+        rising.push(mark)?;
+    }
+    Ok(())
 }

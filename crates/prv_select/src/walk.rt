@@ -21,7 +21,7 @@ pub struct Walk {
     /// The variables whose values are needed, with a bit for each.
     pub needed: u64,
     /// How many of the `if`s round the evaluation passed last the walk is in, the outermost first.
-    pub open: usize,
+    pub entered: usize,
     /// The `if` that is passed over, of which the test hasn't come yet.
     pub skipped: Option<usize>,
     /// The marks that contribute.
@@ -56,7 +56,7 @@ fn pass(event: &Event, tables: Tables<'_>, walk: &mut Walk) -> bool
         }
         None => {
             let row = row(tables.rows, stmt);
-            walk.open = here.outer.depth;
+            walk.entered = here.outer.depth;
             choose(event, row, here, walk)
         }
     }
@@ -67,7 +67,7 @@ fn pass_over(stmt: usize, here: Place, skipped: usize, walk: &mut Walk)
     ensures { walk.new ≡ passed_over stmt here skipped walk.old }
 {
     if stmt == skipped {
-        walk.open = here.outer.depth;
+        walk.entered = here.outer.depth;
         walk.skipped = None;
     } else {
         walk.skipped = Some(skipped);
@@ -99,7 +99,7 @@ fn skipped(scope: Scope, tables: Tables<'_>, walk: &Walk) -> Option<usize>
 {
     match walk.skipped {
         Some(skipped) => Some(skipped),
-        None => outermost(scope.nearest, scope.depth.saturating_sub(walk.open), tables, walk.needed),
+        None => outermost(scope.nearest, scope.depth.saturating_sub(walk.entered), tables, walk.needed),
     }
 }
 
