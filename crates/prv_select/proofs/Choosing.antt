@@ -119,7 +119,7 @@ module _ (places : List Place) (rows : List Row) where
         needed = need;
         kept = refl;
         entered = omega arith;
-        passes = shown places rows s _ (or-none walk.skipped _ how) refl;
+        passes = shown places rows s (record { needed = needs_before b (row_at rows k) walk.needed; entered = s.depth; skipped = walk.skipped; marks = both_marks walk.marks s.marks }) (or-none walk.skipped _ how) refl;
         marks = λ m low. has-both walk.marks s.marks m low ∙ one-more (has_mark walk.marks m) (has_mark s.marks m);
       })
 
@@ -131,7 +131,7 @@ module _ (places : List Place) (rows : List Row) where
         needed = need;
         kept = refl;
         entered = omega arith;
-        passes = shown places rows s _ (or-none walk.skipped _ how) refl;
+        passes = shown places rows s (record { needed = walk.needed; entered = s.depth; skipped = walk.skipped; marks = walk.marks }) (or-none walk.skipped _ how) refl;
         marks = λ m low. none-more (has_mark walk.marks m) (has_mark s.marks m);
       })
 

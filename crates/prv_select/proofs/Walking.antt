@@ -64,6 +64,9 @@ pub number-is : (k : ℕ) (why : Use) (v : Option ℤ) → (event k (what_of why
 number-is k why None = refl
 number-is k why (Some n) = refl
 
+pub one-false : (n : ℕ) → false ∷ replicate n false ≡ replicate (1 + n) false
+one-false n = let more : suc n ≡ 1 + n = omega arith in ap (λ (m : ℕ). replicate m false) more
+
 module _ (places : List Place) (rows : List Row) where
   -- one evaluation, where the statement stands as it is said
   pub pass-here : (x : Event) (k : ℕ) (outer inner : Scope) (walk : Walk) (skipped : Option ℕ) → x.stmt ≡ k → place_at places k ≡ record { outer = outer; inner = inner } → skips places rows walk inner ≡ skipped →
@@ -128,9 +131,6 @@ module _ (places : List Place) (rows : List Row) where
       ap (λ (one : Passed). record { walk = one.walk; kept = one.kept ∷ [] })
       (pass-here x k outer inner walk (Some j) is stands how
       ∙ ap (λ (z : Bool). record { walk = if z then record walk { entered = outer.depth; skipped = None } else record walk { skipped = Some j }; kept = false }) other)
-
-  pub one-false : (n : ℕ) → false ∷ replicate n false ≡ replicate (1 + n) false
-  one-false n = let more : suc n ≡ 1 + n = omega arith in ap (λ (m : ℕ). replicate m false) more
 
   pub hidden : (s : Scope) (run : Run) → Lies places s run → (j : ℕ) (walk : Walk) → walk.entered ≤ s.depth → skips places rows walk s ≡ Some j → (place_at places j).outer.depth < s.depth →
       Hidden s j run walk (back places rows (events run) walk)
