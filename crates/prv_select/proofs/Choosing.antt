@@ -1,5 +1,5 @@
 -- The flat walk backward along a run's evaluations keeps what the choice keeps.
-use Rattle.std.proofs.Common.{◌≡◌, ℕ, zero, suc, ◌+◌, ◌-◌, ◌<◌, ◌≤◌, nat_eq, Bool, true, false, ◌&&◌, ◌||◌, not, List, [], ◌∷◌, ◌++◌, length, replicate, ℤ, Option, Some, None, if◌then◌else◌, refl, sym, ap, ◌∙◌, subst, arith, bit_and, bit_or}
+use Rattle.std.proofs.Common.{◌≡◌, ℕ, zero, suc, ◌+◌, ◌<◌, ◌≤◌, nat_eq, Bool, true, false, ◌&&◌, ◌||◌, not, List, [], ◌∷◌, ◌++◌, replicate, ℤ, Option, Some, None, if◌then◌else◌, refl, sym, ap, ◌∙◌, subst, arith, bit_and, bit_or}
 use Rattle.std.proofs.lemmas.List.Folds.{list_any-append}
 use Rattle.std.proofs.lemmas.Bool.Decides.{nat_tests}
 use Rattle.std.specs.Int.{w64, bit_not}
@@ -10,22 +10,22 @@ use Rattle.prv_dep.specs.Dependences.{vars, may_fault}
 use Rattle.prv_dep.specs.Tables.{bit, mask, row_at}
 use Rattle.prv_dep.specs.declared.writes.Row.{Row}
 use Rattle.prv_dep.proofs.MaskLaws.{mask-one}
-use Rattle.prv_run.specs.Runs.{Run, Use, Idle, Eval, Then, Choice, Mark, Sets, Puts, Returns, Asserts, Tests, event, what_of, events}
+use Rattle.prv_run.specs.Runs.{Run, Use, Eval, Then, Choice, Sets, Puts, Returns, Asserts, Tests, event, what_of, events}
 use Rattle.prv_run.specs.declared.event.Event.{Event}
 use Rattle.prv_run.specs.declared.event.What.TheVariants as w
 use Rattle.prv_select.specs.declared.places.Scope.{Scope}
 use Rattle.prv_select.specs.declared.places.Place.{Place}
 use Rattle.prv_select.specs.declared.marks.Marks.{Marks}
 use Rattle.prv_select.specs.declared.walk.Walk.{Walk}
-use Rattle.prv_select.specs.Choices.{Chosen, with_vars, without, no_mark, keeps, needs, matters, count, before, choose}
+use Rattle.prv_select.specs.Choices.{Chosen, with_vars, without, no_mark, matters, count, before, choose}
 use Rattle.prv_select.specs.Marks.{one_mark, both_marks, has_mark}
 use Rattle.prv_select.specs.Places.{place_at}
-use Rattle.prv_select.specs.Walks.{is_relevant, skips, Passed, sets, needs_before, is_kept, chosen, passed_by, pass, Back, back}
-use Rattle.prv_select.proofs.Masks.{AreNeeded, HaveBits, needed-vars, needed-set, some-needed}
+use Rattle.prv_select.specs.Walks.{is_relevant, skips, Passed, sets, needs_before, is_kept, chosen, Back, back}
+use Rattle.prv_select.proofs.Masks.{AreNeeded, needed-vars, needed-set, some-needed}
 use Rattle.prv_select.proofs.MarkLaws.{has-both, has-one}
 use Rattle.prv_select.proofs.PlaceLaws.{part, marked}
-use Rattle.prv_select.proofs.Lying.{SetsBit, Lies, branch_writes}
-use Rattle.prv_select.proofs.Walking.{Rows, IsOfEval, IsOfSet, number-is, or-none, pass-here, back-append, inward-own, shown, one-false, Hidden, hidden}
+use Rattle.prv_select.proofs.Lying.{SetsBit, Lies}
+use Rattle.prv_select.proofs.Walking.{Rows, IsOfEval, number-is, or-none, pass-here, back-append, inward-own, shown, one-false, hidden}
 
 or_false : (b : Bool) → (b || false) ≡ b
 or_false true = refl
@@ -154,10 +154,12 @@ module _ (places : List Place) (rows : List Row) where
           (λ i. row.set.leaves i || not (nat_eq (bit_and (row.set.writes i) walk.needed) 0))
           ∙ ap (λ (b : Bool). may_fault e || b) (ap (λ (m : ℕ). not (nat_eq (bit_and m walk.needed) 0)) (sym (mask-one var)) ∙ some-needed walk.needed needed (var ∷ []) need (low, tt) ∙ or_false (needed var))
           ∙ or_swap (may_fault e) (needed var)
+
       before_it : AreNeeded (needs_before true (row_at rows k) walk.needed) (with_vars e (without var needed))
       before_it =
           subst (λ (m : ℕ). AreNeeded (bit_or (bit_and walk.needed (bit_not w64 m)) (row_at rows k).reads) (with_vars e (without var needed))) (sym row.set.writes)
           (subst (λ (r : ℕ). AreNeeded (bit_or (bit_and walk.needed (bit_not w64 (bit var))) r) (with_vars e (without var needed))) (sym row.reads) (needed-set walk.needed needed var e low need))
+
       by : (z : Bool) → (needed var || may_fault e) ≡ z → Keeps s walk (choose (Eval k (Sets var) e (Some n)) needed) (back places rows (x ∷ []) walk)
       by true z =
           subst (λ (b : Bool). Keeps s walk (if b then record { needed = with_vars e (without var needed); kept = true ∷ []; marks = no_mark } else record { needed = needed; kept = false ∷ []; marks = no_mark }) (back places rows (x ∷ []) walk))
@@ -236,8 +238,10 @@ module _ (places : List Place) (rows : List Row) where
     where
       inner : Chosen
       inner = choose (Then (Eval k Tests test x) rest) needed
+
       none : Chosen
       none = record { needed = needed; kept = replicate (1 + count rest) false; marks = no_mark }
+
       by : (z : Bool) → matters test chosen other needed ≡ z → Keeps s walk (if matters test chosen other needed then inner else none) (back places rows (event k w.Test x ∷ events rest) walk)
       by true z =
           let hr = inside (inward-own places rows s k walk true stands low how (relevant ∙ z)) in

@@ -10,7 +10,6 @@ use Rattle.prv_model.specs.Programs.{stmt_count, expr_over, stmt_over, node_stmt
 use Rattle.prv_model.specs.Statements.{Frame, Step, exec, spend}
 use Rattle.prv_model.specs.Outcomes.{start}
 use Rattle.prv_model.specs.declared.expr.Expr.{Expr}
-use Rattle.prv_model.specs.declared.limits.TheConstants.{MAX_VARS}
 use Rattle.prv_model.specs.declared.outcome.Ending.{Ending}
 use Rattle.prv_model.specs.declared.program.Program.{Program}
 use Rattle.prv_model.specs.declared.stmt.Stmt.{Stmt, roll-Stmt, map-Stmt}

@@ -1,5 +1,5 @@
 -- Which marks a set has.
-use Rattle.std.proofs.Common.{◌≡◌, ℕ, zero, suc, ◌<◌, ◌/◌, ◌%◌, ◌^◌, ◌==◌, nat_eq, ◌≢◌, Bool, true, false, ◌||◌, List, [], ◌∷◌, length, slice_index, slice_set, get_or, refl, sym, ap, ◌∙◌, bit_or, arith, get_or-set_other}
+use Rattle.std.proofs.Common.{◌≡◌, ℕ, zero, suc, ◌<◌, ◌/◌, ◌%◌, ◌^◌, ◌==◌, nat_eq, ◌≢◌, Bool, true, false, ◌||◌, [], ◌∷◌, slice_index, refl, sym, ap, ◌∙◌, arith, get_or-set_other}
 use Rattle.std.specs.Int.{bit_at}
 use Rattle.std.proofs.lemmas.Grind.{get_or-set_at}
 use Rattle.std.proofs.lemmas.Nat.Bits.{bit_at-zero, bit_at-pow_same, bit_at-pow_other}

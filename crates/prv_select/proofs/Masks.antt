@@ -1,5 +1,5 @@
 -- A number that has a bit for each needed variable.
-use Rattle.std.proofs.Common.{◌≡◌, ℕ, zero, suc, ◌<◌, ◌-◌, ◌*◌, ◌^◌, ◌==◌, nat_eq, nat_lt, Bool, true, false, ◌&&◌, ◌||◌, not, List, [], ◌∷◌, refl, sym, ap, ◌∙◌, subst, min, max, bit_and, bit_or, arith, if◌then◌else◌}
+use Rattle.std.proofs.Common.{◌≡◌, ℕ, zero, suc, ◌<◌, ◌-◌, ◌*◌, ◌^◌, ◌==◌, nat_eq, nat_lt, Bool, true, false, ◌&&◌, ◌||◌, not, List, [], ◌∷◌, refl, sym, ap, ◌∙◌, min, max, bit_and, bit_or, arith}
 use Rattle.std.specs.Int.{w64, bit_at, bit_not}
 use Rattle.std.specs.List.{list_any}
 use Rattle.std.proofs.Math.Pow.{pow-lt}
@@ -7,7 +7,7 @@ use Rattle.std.proofs.lemmas.Nat.{and_comm, pow_pos}
 use Rattle.std.proofs.lemmas.Nat.Bits.{bit_at_or, bit_at_and, bit_at_not, bit_at-zero, bit_at-lt, and_pow, same_from_bits}
 use Rattle.std.proofs.lemmas.Bool.Decides.{nat_tests}
 use Rattle.prv_model.specs.declared.expr.Expr.{Expr}
-use Rattle.prv_dep.specs.Dependences.{has, vars}
+use Rattle.prv_dep.specs.Dependences.{vars}
 use Rattle.prv_dep.specs.Tables.{bit, mask, has_bit}
 use Rattle.prv_dep.proofs.MaskLaws.{mask-has, mask-one}
 use Rattle.prv_select.specs.Choices.{with_vars, without, nothing}

@@ -5,12 +5,12 @@ use Rattle.prv_model.specs.Programs.{node_count, stmt_count}
 use Rattle.prv_model.specs.declared.expr.Expr.{Expr}
 use Rattle.prv_model.specs.declared.stmt.Stmt.{Stmt, roll-Stmt, map-Stmt}
 use Rattle.prv_model.specs.declared.stmt.Stmt.TheOpen.{Stmt-F}
-use Rattle.prv_model.specs.declared.stmt.Stmt.TheFolds.{fold-Stmt, fold-roll-Stmt, para-Stmt, para-roll-Stmt, ind-Stmt}
+use Rattle.prv_model.specs.declared.stmt.Stmt.TheFolds.{fold-roll-Stmt, para-roll-Stmt, ind-Stmt}
 use Rattle.prv_model.specs.declared.stmt.Stmt.TheVariants.{Skip, Set, If, While, Return, Out, Assert, Block, Marked, rolls-Skip, rolls-Set, rolls-If, rolls-While, rolls-Return, rolls-Out, rolls-Assert, rolls-Block, rolls-Marked}
 use Rattle.prv_select.specs.declared.places.Scope.{Scope}
 use Rattle.prv_select.specs.declared.places.Place.{Place}
 use Rattle.prv_select.specs.Marks.{one_mark, both_marks}
-use Rattle.prv_select.specs.Places.{node_inner, inner, with_own, in_turn_places, node_places, places_inside, places_of, places_all}
+use Rattle.prv_select.specs.Places.{node_inner, inner, node_places, places_inside, places_of, places_all}
 
 abbrev Inner : Type 0
 Inner = ℕ → Scope → Scope
@@ -118,9 +118,9 @@ counts-else : (test : Expr) (chosen other : Counted) → Counts (If test chosen.
 counts-else test chosen other =
     counts-own (If test chosen.0 (Some other.0)) (stmt_count chosen.0 + stmt_count other.0)
     (λ scope k.
-        ap (λ (ps : List Place). length ps) (places-else test chosen.0 other.0 scope k)
-        ∙ length-append (places_of chosen.0 scope k) (places_of other.0 scope (k + length (places_of chosen.0 scope k)))
-        ∙ (λ i. chosen.1 scope k i + other.1 scope (k + length (places_of chosen.0 scope k)) i))
+    ap (λ (ps : List Place). length ps) (places-else test chosen.0 other.0 scope k)
+    ∙ length-append (places_of chosen.0 scope k) (places_of other.0 scope (k + length (places_of chosen.0 scope k)))
+    ∙ (λ i. chosen.1 scope k i + other.1 scope (k + length (places_of chosen.0 scope k)) i))
     (count-as (If test chosen.0 (Some other.0)) (Stmt-F.If test chosen.0 (Some other.0)) (rolls-If test chosen.0 (Some other.0)))
 
 counts-leaf : (s : Stmt) (d : Stmt-F Stmt) → roll-Stmt d ≡ s → node_count (map-Stmt Stmt ℕ (λ y. stmt_count y) d) ≡ 1 → ((scope : Scope) (k : ℕ) → places_inside s scope k ≡ []) → Counts s

@@ -1,5 +1,5 @@
 -- The rows of a program's dependences are of what its runs evaluate.
-use Rattle.std.proofs.Common.{◌≡◌, ℕ, Bool, ◌||◌, not, nat_eq, List, [], ◌∷◌, ◌++◌, map, Option, Some, None, refl, sym, ap, ◌∙◌, subst, slice_get, unwrap_or, bit_and}
+use Rattle.std.proofs.Common.{◌≡◌, ℕ, Bool, ◌||◌, not, nat_eq, List, Option, Some, None, sym, ap, ◌∙◌, subst, slice_get, unwrap_or, bit_and}
 use Rattle.std.specs.Option.{option_map}
 use Rattle.prv_model.specs.Numbers.{statements_all}
 use Rattle.prv_model.specs.declared.expr.Expr.{Expr}
@@ -8,18 +8,17 @@ use Rattle.prv_model.specs.declared.stmt.Stmt.{Stmt, roll-Stmt, map-Stmt, out-St
 use Rattle.prv_model.specs.declared.stmt.Stmt.TheOpen.{Stmt-F}
 use Rattle.prv_model.specs.declared.stmt.Stmt.TheFolds.{fold-roll-Stmt}
 use Rattle.prv_model.specs.declared.stmt.Stmt.TheVariants.{Skip, If, rolls-If}
-use Rattle.prv_dep.specs.Dependences.{vars, may_fault, may_leave, node_may_leave, writes, node_writes, branch_any, branch_list}
-use Rattle.prv_dep.specs.Tables.{bit, mask, reads, node_reads, row, row_at, dependences, statement}
+use Rattle.prv_dep.specs.Dependences.{vars, may_fault, may_leave, node_may_leave, writes, node_writes, branch_any}
+use Rattle.prv_dep.specs.Tables.{mask, reads, node_reads, row, row_at, dependences}
 use Rattle.prv_dep.specs.declared.writes.Row.{Row}
 use Rattle.prv_dep.proofs.MaskLaws.{mask-one}
 use Rattle.prv_dep.proofs.RowLaws.{row-of}
 use Rattle.prv_run.specs.Runs.{Run, Use, Idle, Eval, Then, Choice, Mark, Sets, Puts, Returns, Asserts, Tests}
-use Rattle.prv_run.proofs.Fitting.{node_own, own, Evaluates, Fits}
-use Rattle.prv_select.specs.Choices.{matters}
+use Rattle.prv_run.proofs.Fitting.{node_own, own, Fits}
 use Rattle.prv_select.specs.Walks.{is_relevant}
 use Rattle.prv_select.proofs.Masks.{some-needed}
 use Rattle.prv_select.proofs.Lying.{branch_writes}
-use Rattle.prv_select.proofs.Walking.{SetsRow, IsOfSet, IsOfEval, IsOfChoice, Rows}
+use Rattle.prv_select.proofs.Walking.{SetsRow, IsOfEval, IsOfChoice, Rows}
 
 own-as : (s : Stmt) (d : Stmt-F Stmt) → roll-Stmt d ≡ s → own s ≡ node_own (map-Stmt Stmt (Option (Use × Expr)) (λ y. own y) d)
 own-as s d is = ap (λ (x : Stmt). own x) (sym is) ∙ fold-roll-Stmt (Option (Use × Expr)) node_own d

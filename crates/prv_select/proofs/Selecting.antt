@@ -1,23 +1,22 @@
 -- The walk along the evaluations of a program's run has the choice of that run.
-use Rattle.std.proofs.Common.{◌≡◌, ℕ, zero, suc, ◌+◌, ◌<◌, Bool, true, false, ◌||◌, ◌&&◌, List, [], ◌∷◌, ℤ, Option, Some, None, if◌then◌else◌, refl, sym, ap, ◌∙◌, subst, arith, filter}
+use Rattle.std.proofs.Common.{◌≡◌, ℕ, zero, suc, ◌+◌, ◌<◌, Bool, true, false, ◌||◌, ◌&&◌, List, ◌∷◌, ℤ, None, if◌then◌else◌, refl, ap, ◌∙◌, subst, arith, filter}
 use Rattle.std.specs.List.{list_any}
-use Rattle.prv_model.specs.Numbers.{statements_all}
 use Rattle.prv_model.specs.declared.program.Program.{Program}
 use Rattle.prv_dep.specs.Tables.{dependences}
 use Rattle.prv_dep.specs.declared.writes.Row.{Row}
-use Rattle.prv_run.specs.Runs.{Run, events, run_of}
+use Rattle.prv_run.specs.Runs.{events, run_of}
 use Rattle.prv_run.specs.declared.event.Event.{Event}
 use Rattle.prv_run.proofs.Fitting.{fits-program}
 use Rattle.prv_select.specs.declared.marks.Marks.{Marks}
 use Rattle.prv_select.specs.declared.places.Place.{Place}
 use Rattle.prv_select.specs.declared.walk.Walk.{Walk}
-use Rattle.prv_select.specs.Choices.{Chosen, choose, nothing, numbers_from, rising_below}
+use Rattle.prv_select.specs.Choices.{choose, nothing, numbers_from, rising_below}
 use Rattle.prv_select.specs.Marks.{no_marks, has_mark}
 use Rattle.prv_select.specs.Places.{outside, places_all}
 use Rattle.prv_select.specs.Walks.{Back, back}
 use Rattle.prv_select.proofs.Masks.{none-needed}
 use Rattle.prv_select.proofs.MarkLaws.{has-none}
-use Rattle.prv_select.proofs.Lying.{Lies, lies-program}
+use Rattle.prv_select.proofs.Lying.{lies-program}
 use Rattle.prv_select.proofs.RowFacts.{rows-run}
 use Rattle.prv_select.proofs.Choosing.{Keeps, keeps-run}
 

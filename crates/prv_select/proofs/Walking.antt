@@ -1,29 +1,24 @@
 -- The flat walk backward along a run's evaluations keeps what the choice keeps.
-use Rattle.std.proofs.Common.{◌≡◌, ℕ, zero, suc, ◌+◌, ◌-◌, ◌<◌, ◌≤◌, nat_eq, Bool, true, false, ◌&&◌, ◌||◌, not, List, [], ◌∷◌, ◌++◌, length, map, replicate, ℤ, Option, Some, None, if◌then◌else◌, refl, sym, ap, ◌∙◌, subst, append_assoc, arith, bit_and, bit_or}
+use Rattle.std.proofs.Common.{◌≡◌, ℕ, suc, ◌+◌, ◌-◌, ◌<◌, ◌≤◌, nat_eq, Bool, true, false, List, [], ◌∷◌, ◌++◌, replicate, ℤ, Option, Some, None, if◌then◌else◌, refl, sym, ap, ◌∙◌, subst, arith}
 use Rattle.std.proofs.lemmas.List.{replicate-append-replicate}
-use Rattle.std.proofs.lemmas.List.Folds.{list_any-append}
 use Rattle.std.proofs.lemmas.Bool.Decides.{nat_tests}
-use Rattle.std.specs.Int.{w64, bit_not}
-use Rattle.std.specs.List.{list_any}
 use Rattle.prv_model.specs.declared.expr.Expr.{Expr}
 use Rattle.prv_model.specs.declared.stmt.Stmt.{Stmt}
 use Rattle.prv_dep.specs.Dependences.{vars, may_fault}
 use Rattle.prv_dep.specs.Tables.{bit, mask, row_at}
 use Rattle.prv_dep.specs.declared.writes.Row.{Row}
-use Rattle.prv_run.specs.Runs.{Run, Use, Idle, Eval, Then, Choice, Mark, Sets, Puts, Returns, Asserts, Tests, event, what_of, events}
+use Rattle.prv_run.specs.Runs.{Run, Use, Idle, Eval, Then, Choice, Mark, Sets, Tests, event, what_of, events}
 use Rattle.prv_run.specs.declared.event.Event.{Event}
 use Rattle.prv_run.specs.declared.event.What.TheVariants as w
 use Rattle.prv_select.specs.declared.places.Scope.{Scope}
 use Rattle.prv_select.specs.declared.places.Place.{Place}
 use Rattle.prv_select.specs.declared.walk.Walk.{Walk}
-use Rattle.prv_select.specs.Choices.{Chosen, with_vars, without, no_mark, keeps, needs, matters, count, before, choose}
-use Rattle.prv_select.specs.Marks.{one_mark, both_marks, has_mark}
+use Rattle.prv_select.specs.Choices.{matters, count}
 use Rattle.prv_select.specs.Places.{place_at}
-use Rattle.prv_select.specs.Walks.{is_relevant, or_else, outermost, skips, Passed, sets, needs_before, is_kept, chosen, passed_over, passed_by, pass, Back, back}
-use Rattle.prv_select.proofs.Masks.{AreNeeded, HaveBits, needed-vars, needed-set, some-needed}
-use Rattle.prv_select.proofs.MarkLaws.{has-both, has-one}
+use Rattle.prv_select.specs.Walks.{is_relevant, or_else, outermost, skips, Passed, chosen, passed_by, pass, Back, back}
+use Rattle.prv_select.proofs.Masks.{AreNeeded, HaveBits}
 use Rattle.prv_select.proofs.PlaceLaws.{part, marked}
-use Rattle.prv_select.proofs.Lying.{SetsBit, Lies, branch_writes}
+use Rattle.prv_select.proofs.Lying.{Lies, branch_writes}
 
 -- what is known of the rows of a run: each evaluation's row is of its expression, and each `if` has what it may write
 pub record IsOfSet (row : Row) (var : ℕ) (e : Expr) : Type 0 where

@@ -1,5 +1,5 @@
 -- Where the statements of a program stand: which `if`s and marks are round them.
-use Rattle.std.specs.Prelude.{ℕ, ◌+◌, List, [], ◌∷◌, ◌++◌, length, Option, Some, None, map, unwrap_or, slice_get}
+use Rattle.std.specs.Prelude.{ℕ, ◌+◌, List, [], ◌∷◌, ◌++◌, length, Some, None, map, unwrap_or, slice_get}
 use Rattle.prv_model.specs.declared.stmt.Stmt.{Stmt}
 use Rattle.prv_model.specs.declared.stmt.Stmt.TheOpen.{Stmt-F}
 use Rattle.prv_model.specs.declared.stmt.Stmt.TheFolds.{fold-Stmt, para-Stmt}

@@ -6,8 +6,6 @@ mod choice;
 mod laws;
 mod marks;
 mod places;
-#[cfg(test)]
-mod tests;
 mod walk;
 
 pub use choice::{Chosen, select};

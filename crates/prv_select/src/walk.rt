@@ -99,17 +99,17 @@ fn skipped(scope: Scope, tables: Tables<'_>, walk: &Walk) -> Option<usize>
 {
     match walk.skipped {
         Some(skipped) => Some(skipped),
-        None => outermost(scope.nearest, scope.depth.saturating_sub(walk.entered), tables, walk.needed),
+        None => outermost(
+            scope.nearest,
+            scope.depth.saturating_sub(walk.entered),
+            tables,
+            walk.needed,
+        ),
     }
 }
 
 /// The outermost `if` that isn't relevant, of so many from the nearest outward.
-fn outermost(
-    nearest: Option<usize>,
-    count: usize,
-    tables: Tables<'_>,
-    needed: u64,
-) -> Option<usize>
+fn outermost(nearest: Option<usize>, count: usize, tables: Tables<'_>, needed: u64) -> Option<usize>
     ensures { result ≡ outermost_of tables.entry.places.now tables.entry.rows.now needed count nearest }
 {
     let mut at = nearest;

@@ -1,4 +1,4 @@
-use Rattle.std.proofs.Common.{◌≡◌, ap, sym, ◌∙◌, true, false}
+use Rattle.std.proofs.Common.{ap, sym, ◌∙◌, true, false}
 use Rattle.prv_dep.specs.declared.writes.Row.{Row}
 use Rattle.prv_select.specs.declared.places.Place.{Place}
 use Rattle.prv_select.specs.Walks.{is_relevant}
