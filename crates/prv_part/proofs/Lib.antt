@@ -1,0 +1,5 @@
+pub mod Negations
+pub mod Equalities
+pub mod Covering
+pub mod Partitions
+pub mod Truths
