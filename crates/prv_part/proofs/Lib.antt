@@ -3,3 +3,4 @@ pub mod Equalities
 pub mod Covering
 pub mod Partitions
 pub mod Truths
+pub mod Settling

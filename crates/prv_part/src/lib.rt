@@ -8,6 +8,8 @@ mod laws;
 mod part;
 mod settlement;
 mod shape;
+#[cfg(test)]
+mod tests;
 
 pub use laws::{
     partitions_hold_their_input, parts_are_true, parts_cover_their_region, rests_cover_a_region,

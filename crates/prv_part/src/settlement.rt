@@ -41,7 +41,7 @@ impl Model for Settlement {
 }
 
 impl Settlement {
-    /// The settlement of an empty region, which has no member.
+    /// The settlement of an empty region, which has no member. It takes no memory, as all five.
     pub fn empty(
         pair: Arc<Pair>,
         entry: u32,

@@ -1,0 +1,40 @@
+-- When an empty region, and one of which nothing is decided, is settled.
+use Rattle.std.proofs.Common.{◌≡◌, ℕ, ◌<◌, ◌^◌, Bool, true, false, List, [], ◌∷◌, length, ℤ, Option, None, refl, arith}
+use Rattle.prv_model.specs.Terms.{holds}
+use Rattle.prv_model.specs.Boards.{IsInput}
+use Rattle.prv_model.specs.declared.entry.Kind.TheVariants as k
+use Rattle.prv_model.specs.declared.entry.Reason.{Reason}
+use Rattle.prv_model.specs.declared.entry.Reason.TheVariants.{Wide}
+use Rattle.prv_model.specs.declared.program.Pair.{Pair}
+use Rattle.prv_model.specs.declared.term.Term.{Term}
+use Rattle.prv_part.specs.Parts.{Other, unmarked}
+use Rattle.prv_part.specs.Settlements.{finding, IsSettlement}
+use Rattle.prv_part.specs.declared.shape.Shape.TheVariants.{Empty, Stuck}
+use Rattle.prv_part.proofs.Covering.{parts-cover}
+use Rattle.prv_part.proofs.Truths.{empty-true, stuck-true}
+
+pub empty-settled : (pair : Pair) (entry : ℕ) (region : List Term) (numbers : ℕ) → ((x : List ℤ) → IsInput pair.before.params x → holds region x ≡ false) → length region < 2 ^ 62 → numbers < 2 ^ 62 →
+    IsSettlement (finding pair entry region None Empty (unmarked k.Empty region ∷ []) numbers)
+empty-settled pair entry region numbers none short few = record {
+  run = refl;
+  member = tt;
+  parts = (Other.Left Wide, Wide, refl);
+  once = parts-cover pair pair.before.params region Empty [] (Other.Left Wide) Wide;
+  true_parts = empty-true pair region [] (Other.Left Wide) Wide none;
+  few_parts = omega arith;
+  few_numbers = few;
+  few_literals = omega arith;
+}
+
+pub stuck-settled : (pair : Pair) (entry : ℕ) (region : List Term) (why : Reason) (numbers : ℕ) → length region < 2 ^ 62 → numbers < 2 ^ 62 →
+    IsSettlement (finding pair entry region None Stuck (unmarked (k.Undecided why) region ∷ []) numbers)
+stuck-settled pair entry region why numbers short few = record {
+  run = tt;
+  member = tt;
+  parts = (Other.Left why, why, refl);
+  once = parts-cover pair pair.before.params region Stuck [] (Other.Left why) why;
+  true_parts = stuck-true pair region [] (Other.Left why) why;
+  few_parts = omega arith;
+  few_numbers = few;
+  few_literals = omega arith;
+}
