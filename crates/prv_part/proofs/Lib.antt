@@ -4,3 +4,4 @@ pub mod Covering
 pub mod Partitions
 pub mod Truths
 pub mod Settling
+pub mod WorkedRows

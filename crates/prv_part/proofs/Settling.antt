@@ -1,5 +1,5 @@
 -- When an empty region, and one of which nothing is decided, is settled.
-use Rattle.std.proofs.Common.{◌≡◌, ℕ, ◌<◌, ◌^◌, Bool, true, false, List, [], ◌∷◌, length, ℤ, Option, None, refl, arith}
+use Rattle.std.proofs.Common.{◌≡◌, ℕ, ◌<◌, ◌^◌, Bool, true, false, List, [], ◌∷◌, length, ℤ, Option, None, pos, refl, ap, ◌∙◌, arith}
 use Rattle.prv_model.specs.Terms.{holds}
 use Rattle.prv_model.specs.Boards.{IsInput}
 use Rattle.prv_model.specs.declared.entry.Kind.TheVariants as k
@@ -7,6 +7,8 @@ use Rattle.prv_model.specs.declared.entry.Reason.{Reason}
 use Rattle.prv_model.specs.declared.entry.Reason.TheVariants.{Wide}
 use Rattle.prv_model.specs.declared.program.Pair.{Pair}
 use Rattle.prv_model.specs.declared.term.Term.{Term}
+use Rattle.prv_model.specs.declared.term.Term.TheVariants.{Num}
+use Rattle.prv_model.proofs.TermLemmas.{term_value-Num}
 use Rattle.prv_part.specs.Parts.{Other, unmarked}
 use Rattle.prv_part.specs.Settlements.{finding, IsSettlement}
 use Rattle.prv_part.specs.declared.shape.Shape.TheVariants.{Empty, Stuck}
@@ -38,3 +40,10 @@ stuck-settled pair entry region why numbers short few = record {
   few_numbers = few;
   few_literals = omega arith;
 }
+
+-- a region of one condition, and one whose condition is 0
+pub one-short : (region : List Term) (t : Term) → region ≡ t ∷ [] → length region < 2 ^ 62
+one-short region t e = let long : length region ≡ 1 = ap (λ (r : List Term). length r) e in omega arith
+
+pub zero-none : (region : List Term) (x : List ℤ) → region ≡ Num (pos 0) ∷ [] → holds region x ≡ false
+zero-none region x e = ap (λ (r : List Term). holds r x) e ∙ rw (term_value-Num (pos 0) x) refl

@@ -46,32 +46,56 @@ fn one_part(alloc: Global, region: &Region, kind: Kind) -> Result<Vec<Part>, Fai
     Ok(parts)
 }
 
+/// A pair of two programs that return another number.
+fn pair(alloc: Global) -> Result<Option<Arc<Pair>>, AllocError> {
+    match (program(alloc, 1)?, program(alloc, 2)?) {
+        (Some(before), Some(after)) => {
+            let pair = Pair {
+                before,
+                after,
+                turns: 4,
+            };
+            Ok(Some(Arc::new(alloc, pair)?))
+        }
+        _ => Ok(None),
+    }
+}
+
+fn empty(alloc: Global, pair: Arc<Pair>) -> Result<Settlement, Fail> {
+    let region = region(alloc, 0)?;
+    let parts = one_part(alloc, &region, Kind::Empty)?;
+    Ok(Settlement::empty(pair, 3, region, parts, 7)?)
+}
+
+fn stuck(alloc: Global, pair: Arc<Pair>) -> Result<Settlement, Fail> {
+    let region = region(alloc, 1)?;
+    let kind = Kind::Undecided {
+        reason: Reason::Wide,
+    };
+    let parts = one_part(alloc, &region, kind)?;
+    Ok(Settlement::stuck(pair, 5, region, None, parts, 9)?)
+}
+
+/// What the readers answer of a settlement.
+fn reads(settlement: &Settlement, shape: Shape, entry: u32, numbers: u64) -> bool {
+    settlement.shape() == shape
+        && settlement.entry() == entry
+        && settlement.numbers() == numbers
+        && settlement.member().is_none()
+        && settlement.pair().turns == 4
+        && settlement.region().roots().len() == 1
+        && settlement.parts().len() == 1
+}
+
 /// An empty region, and one of which nothing is decided.
 #[test]
 fn settled(rt: HostRuntime) -> Result<(), Fail> {
     let alloc = rt.alloc();
-    if let (Some(before), Some(after)) = (program(alloc, 1)?, program(alloc, 2)?) {
-        let pair = Arc::new(alloc, Pair {
-            before,
-            after,
-            turns: 4,
-        })?;
-        let none = region(alloc, 0)?;
-        let parts = one_part(alloc, &none, Kind::Empty)?;
-        let empty = Settlement::empty(Arc::try_clone(&pair)?, 3, none, parts, 7)?;
-        assert!(rt; empty.shape() == Shape::Empty && empty.entry() == 3, "empty");
-        assert!(rt; empty.member().is_none() && empty.numbers() == 7, "empty");
-        assert!(rt; empty.parts().len() == 1, "one part");
-
-        let all = region(alloc, 1)?;
-        let kind = Kind::Undecided {
-            reason: Reason::Wide,
-        };
-        let parts = one_part(alloc, &all, kind)?;
-        let stuck = Settlement::stuck(pair, 0, all, None, parts, 0)?;
-        assert!(rt; stuck.shape() == Shape::Stuck && stuck.entry() == 0, "stuck");
-        assert!(rt; stuck.region().roots().len() == 1, "its region");
-        assert!(rt; stuck.pair().turns == 4, "its pair");
+    if let Some(pair) = pair(alloc)? {
+        let settlement = empty(alloc, Arc::try_clone(&pair)?)?;
+        assert!(rt; reads(&settlement, Shape::Empty, 3, 7), "empty");
+        let settlement = stuck(alloc, pair)?;
+        assert!(rt; reads(&settlement, Shape::Stuck, 5, 9), "stuck");
     }
     Ok(())
 }
