@@ -13,7 +13,10 @@ impl Draws {
         ensures state { self.new.state ≡ next_state self.old.state }
         ensures value { result ≡ drawn_of self.new.state }
     {
-        self.state = self.state.wrapping_mul(1_664_525).wrapping_add(1_013_904_223);
+        self.state = self
+            .state
+            .wrapping_mul(1_664_525)
+            .wrapping_add(1_013_904_223);
         (self.state >> 16) % 100
     }
 }

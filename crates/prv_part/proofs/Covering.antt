@@ -15,7 +15,6 @@ use Rattle.prv_part.specs.Literals.{pair_literals, decided_equality}
 use Rattle.prv_part.specs.Parts.{rests, Other, unmarked, partition, open_rests, second_part, parts_of}
 use Rattle.prv_part.specs.declared.shape.Shape.{Shape}
 use Rattle.prv_part.specs.declared.shape.Shape.TheVariants.{Empty, Stuck, Whole, Split, Beyond}
-use Rattle.prv_part.specs.declared.part.Part.{Part}
 use Rattle.prv_part.proofs.Negations.{negation-nonzero}
 
 and-true : (b : Bool) → (b && true) ≡ b

@@ -1,8 +1,7 @@
 -- The value of an equality of terms, and of a join of truths, on any input.
-use Rattle.std.proofs.Common.{◌≡◌, ℕ, nat_eq, Bool, true, false, ◌&&◌, ◌||◌, List, [], ◌∷◌, length, map, ℤ, pos, negsuc, Option, Some, None, if◌then◌else◌, unwrap_or, refl, sym, ap, ◌∙◌, subst, arith}
+use Rattle.std.proofs.Common.{◌≡◌, Bool, true, false, ◌&&◌, ◌||◌, List, ℤ, pos, negsuc, Option, Some, None, if◌then◌else◌, unwrap_or, refl, sym, ap, ◌∙◌}
 use Rattle.std.specs.Option.{option_map, option_and_then}
 use Rattle.std.specs.Ordering.{int_eq}
-use Rattle.std.specs.Cmp.{signed_Decides}
 use Rattle.prv_model.specs.Words.{is_zero, flag}
 use Rattle.prv_model.specs.Terms.{term_value, total}
 use Rattle.prv_model.specs.TermOrder.{same_term}
@@ -12,8 +11,7 @@ use Rattle.prv_model.specs.declared.term.Term.TheVariants.{Num}
 use Rattle.prv_model.proofs.OrderLemmas.{same_term-same}
 use Rattle.prv_model.proofs.TermLemmas.{term_value-Num, term_value-Op}
 use Rattle.prv_pool.specs.Folding.{as_number, is_number, is_truth_shaped, is_comparison, is_neutral, only_if, on_numbers, are_exchanged, twice, on_one_twice, on_truths, are_opposite, beside_neutral, beside_decided, beside_zero, decided, in_order, negation, folded}
-use Rattle.prv_part.proofs.Negations.{Gives, zero-eq, equal-self, equal-comm, and-left, and-right, number-value, this-number, or-gives, only_if-gives, negation-value}
-use lib.Pointwise.{pointwise, pointwise_long}
+use Rattle.prv_part.proofs.Negations.{Gives, zero-eq, equal-self, equal-comm, and-right, number-value, this-number, or-gives, only_if-gives, negation-value}
 
 -- ---- `a == b` by the rules
 

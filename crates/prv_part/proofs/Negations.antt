@@ -1,5 +1,5 @@
 -- A negation is nonzero exactly where its term is 0, for any term on any input.
-use Rattle.std.proofs.Common.{◌≡◌, ℕ, zero, suc, Bool, true, false, ◌&&◌, not, List, ℤ, pos, negsuc, Option, Some, None, IfSome, if◌then◌else◌, unwrap_or, refl, sym, ap, ◌∙◌, subst, arith, int_lt, int_le}
+use Rattle.std.proofs.Common.{◌≡◌, zero, suc, Bool, true, false, ◌&&◌, not, List, ℤ, pos, negsuc, Option, Some, None, IfSome, if◌then◌else◌, unwrap_or, refl, sym, ap, ◌∙◌, arith, int_lt, int_le}
 use Rattle.std.specs.Option.{option_map, option_and_then}
 use Rattle.std.specs.Ordering.{int_eq}
 use Rattle.std.specs.Cmp.{signed_Decides}
@@ -10,7 +10,7 @@ use Rattle.prv_model.specs.TermOrder.{same_term}
 use Rattle.prv_model.specs.declared.op.TermOp.{TermOp}
 use Rattle.prv_model.specs.declared.op.TermOp.TheVariants.{Add, Sub, Mul, Div, Rem, Shl, Shr, And, Or, Xor, Lt, Le, Eq, Ne}
 use Rattle.prv_model.specs.declared.term.Term.{Term, out-Term, roll-Term, roll-out-Term}
-use Rattle.prv_model.specs.declared.term.Term.TheVariants.{Param, Op, Pick, Num, rolls-Op, rolls-Num}
+use Rattle.prv_model.specs.declared.term.Term.TheVariants.{Op, Num, rolls-Op, rolls-Num}
 use Rattle.prv_model.specs.declared.term.Term.TheOpen.{Term-F}
 use Rattle.prv_model.proofs.OrderLemmas.{same_term-same}
 use Rattle.prv_model.proofs.TermLemmas.{term_value-Num, term_value-Op}

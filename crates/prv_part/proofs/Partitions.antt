@@ -1,18 +1,17 @@
 -- What the runs at an input say of every input of its partition.
 use Rattle.std.proofs.Common.{◌≡◌, ℕ, nat_eq, Bool, true, false, ◌&&◌, ◌||◌, not, List, [], ◌∷◌, ◌++◌, length, map, ℤ, pos, if◌then◌else◌, refl, sym, ap, ◌∙◌, subst, arith, eq-eqb}
 use Rattle.std.proofs.lemmas.List.{length-map}
-use Rattle.std.specs.List.{list_any, list_all}
+use Rattle.std.specs.List.{list_any}
 use Rattle.std.specs.Ordering.{int_eq}
 use lib.Pointwise.{pointwise, pointwise_long}
 use Rattle.prv_model.specs.Words.{is_zero, flag}
 use Rattle.prv_model.specs.Terms.{term_value, holds}
 use Rattle.prv_model.specs.TermOrder.{same_term}
 use Rattle.prv_model.specs.Outcomes.{outcome}
-use Rattle.prv_model.specs.Comparison.{ending_eq, outcome_eq, is_long, compare, verdict}
+use Rattle.prv_model.specs.Comparison.{ending_eq, outcome_eq, is_long}
 use Rattle.prv_model.specs.Boards.{IsInput}
 use Rattle.prv_model.specs.Programs.{IsPair}
 use Rattle.prv_model.specs.declared.op.TermOp.TheVariants.{And, Eq}
-use Rattle.prv_model.specs.declared.outcome.Ending.{Ending}
 use Rattle.prv_model.specs.declared.outcome.Outcome.{Outcome}
 use Rattle.prv_model.specs.declared.program.Pair.{Pair}
 use Rattle.prv_model.specs.declared.term.Term.{Term}
@@ -21,15 +20,14 @@ use Rattle.prv_model.proofs.OrderLemmas.{same_term-same}
 use Rattle.prv_model.proofs.TermLemmas.{term_value-Num, holds-append}
 use Rattle.prv_pool.specs.Folding.{negation, folded}
 use Rattle.prv_pool.specs.Tables.{has_term}
-use Rattle.prv_general.specs.Slices.{Slice, slice}
+use Rattle.prv_general.specs.Slices.{Slice}
 use Rattle.prv_general.proofs.SliceLaws.{fixes-outcome, holds-member}
-use Rattle.prv_part.specs.Literals.{without_repeats, slice_before, slice_after, pair_literals, are_comparable, all_equal, equality, agree_at, decided_equality}
+use Rattle.prv_part.specs.Literals.{without_repeats, slice_before, slice_after, pair_literals, all_equal, equality, agree_at, decided_equality}
 use Rattle.prv_part.specs.Parts.{partition}
 use Rattle.prv_part.proofs.Negations.{and-left, and-right, negation-nonzero}
 use Rattle.prv_part.proofs.Equalities.{eq-value, and-value}
 
 -- ---- literals without repeats say the same
-
 
 -- a region with a term holds only where the term is nonzero
 had-nonzero : (seen : List Term) (t : Term) (x : List ℤ) → has_term seen t ≡ true → holds seen x ≡ true → not (is_zero (term_value t x)) ≡ true

@@ -1,5 +1,5 @@
 -- When an empty region, and one of which nothing is decided, is settled.
-use Rattle.std.proofs.Common.{◌≡◌, ℕ, ◌<◌, ◌^◌, Bool, true, false, List, [], ◌∷◌, length, ℤ, Option, None, pos, refl, ap, ◌∙◌, arith}
+use Rattle.std.proofs.Common.{◌≡◌, ℕ, ◌<◌, ◌^◌, false, List, [], ◌∷◌, length, ℤ, None, pos, refl, ap, ◌∙◌, arith}
 use Rattle.prv_model.specs.Terms.{holds}
 use Rattle.prv_model.specs.Boards.{IsInput}
 use Rattle.prv_model.specs.declared.entry.Kind.TheVariants as k

@@ -1,11 +1,9 @@
 -- What has to be known for the parts of each shape to be true.
-use Rattle.std.proofs.Common.{◌≡◌, ◌≢◌, ℕ, Bool, true, false, ◌&&◌, ◌||◌, not, List, [], ◌∷◌, ◌++◌, map, ℤ, if◌then◌else◌, refl, sym, ap, ◌∙◌}
-use Rattle.std.specs.List.{AllByRecursion}
+use Rattle.std.proofs.Common.{◌≡◌, ◌≢◌, ℕ, Bool, true, false, not, List, [], ◌∷◌, ◌++◌, map, ℤ, if◌then◌else◌, refl, sym, ap, ◌∙◌}
 use Rattle.prv_model.specs.Words.{is_zero}
 use Rattle.prv_model.specs.Terms.{term_value, holds}
 use Rattle.prv_model.specs.Comparison.{verdict}
 use Rattle.prv_model.specs.Boards.{IsInput, Claims, ShowsMember, IsTrueOf}
-use Rattle.prv_model.specs.declared.entry.Kind.{Kind}
 use Rattle.prv_model.specs.declared.entry.Kind.TheVariants as k
 use Rattle.prv_model.specs.declared.entry.Reason.{Reason}
 use Rattle.prv_model.specs.declared.program.Pair.{Pair}
@@ -15,7 +13,7 @@ use Rattle.prv_model.specs.declared.verdict.Verdict.TheVariants as v
 use Rattle.prv_model.proofs.TermLemmas.{holds-append}
 use Rattle.prv_pool.specs.Folding.{negation}
 use Rattle.prv_part.specs.Literals.{agree_at, decided_equality, pair_literals}
-use Rattle.prv_part.specs.Parts.{Other, rests, unmarked, kind_at, contrary_kind, partition, second_part, parts_of, AreTrue}
+use Rattle.prv_part.specs.Parts.{Other, rests, unmarked, kind_at, contrary_kind, partition, parts_of, AreTrue}
 use Rattle.prv_part.specs.declared.shape.Shape.TheVariants.{Empty, Stuck, Whole, Split, Beyond}
 use Rattle.prv_part.proofs.Negations.{and-left, and-right, negation-nonzero}
 use Rattle.prv_part.proofs.Covering.{open-true}
@@ -105,12 +103,15 @@ module _ (pair : Pair) (region : List Term) where
   rests-true t = open-true pair (rests region (pair_literals pair region t))
 
   pub beyond-true : (t : List ℤ) (other : Other) (why : Reason) → AtInput t → holds region t ≡ true → verdict pair t ≡ v.Beyond → AreTrue pair (parts_of pair region Beyond t other why)
-  beyond-true t other why ht inside long = (record {
-    claims = λ x hx h.
-    let is : long_at pair x ≡ true = long-alike pair region t x ht hx inside h ∙ is-long (long_at pair t) (agree_at pair t) long in
-    ap (λ (l : Bool). compared l (agree_at pair x)) is;
-    sample = tt;
-  }, rests-true t)
+  beyond-true t other why ht inside long = (
+    record {
+      claims = λ x hx h.
+          let is : long_at pair x ≡ true = long-alike pair region t x ht hx inside h ∙ is-long (long_at pair t) (agree_at pair t) long in
+          ap (λ (l : Bool). compared l (agree_at pair x)) is;
+      sample = tt;
+    },
+    rests-true t,
+  )
 
   -- an input of the partition is as short as the one that was run
   short : (t x : List ℤ) → AtInput t → AtInput x → holds region t ≡ true → verdict pair t ≢ v.Beyond → holds (partition pair region t) x ≡ true → long_at pair x ≡ false
@@ -122,9 +123,9 @@ module _ (pair : Pair) (region : List Term) where
       holds part t ≡ true → IsTrueOf pair (kind_at pair t) part
   decided-true t part ht inside n lies own = record {
     claims = λ x hx h.
-    let at = lies x hx h in
-    kind-said (long_at pair x) (agree_at pair x) (agree_at pair t) t (short t x ht hx inside n at.0)
-    (decided-same (agree_at pair t) (agree_at pair x) (sym (decided-says pair region t x ht hx at.0) ∙ at.1));
+        let at = lies x hx h in
+        kind-said (long_at pair x) (agree_at pair x) (agree_at pair t) t (short t x ht hx inside n at.0)
+        (decided-same (agree_at pair t) (agree_at pair x) (sym (decided-says pair region t x ht hx at.0) ∙ at.1));
     sample = kind-shows pair.before.params (agree_at pair t) t part ht own;
   }
 
@@ -155,10 +156,10 @@ module _ (pair : Pair) (region : List Term) where
       IsTrueOf pair (contrary_kind pair t y) (partition pair region t ++ negation (decided_equality pair t) ∷ [])
   split-other t y ht inside n hy there = record {
     claims = λ x hx h.
-    let front = more-front (partition pair region t) (negation (decided_equality pair t)) x h in
-    let zero : is_zero (term_value (decided_equality pair t) x) ≡ true = sym (negation-nonzero (decided_equality pair t) x) ∙ more-term (partition pair region t) (negation (decided_equality pair t)) x h in
-    contrary-said (long_at pair x) (agree_at pair x) (agree_at pair t) y (short t x ht hx inside n front)
-    (decided-other (agree_at pair t) (agree_at pair x) (sym (decided-says pair region t x ht hx front) ∙ not-zero _ zero));
+        let front = more-front (partition pair region t) (negation (decided_equality pair t)) x h in
+        let zero : is_zero (term_value (decided_equality pair t) x) ≡ true = sym (negation-nonzero (decided_equality pair t) x) ∙ more-term (partition pair region t) (negation (decided_equality pair t)) x h in
+        contrary-said (long_at pair x) (agree_at pair x) (agree_at pair t) y (short t x ht hx inside n front)
+        (decided-other (agree_at pair t) (agree_at pair x) (sym (decided-says pair region t x ht hx front) ∙ not-zero _ zero));
     sample = contrary-shows pair.before.params (agree_at pair t) y _ hy there;
   }
 

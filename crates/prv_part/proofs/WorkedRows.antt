@@ -1,18 +1,15 @@
 -- Rows on which the definitions were worked out by hand: what the slices of `r = a; if (a < 0) r = -a; return r;` and of the same with `a <= 0` give at 0.
-use Rattle.std.proofs.Common.{◌≡◌, ℕ, Bool, true, false, List, [], ◌∷◌, ◌++◌, ℤ, pos, Option, Some, None, if◌then◌else◌, refl, sym, ap, ◌∙◌}
+use Rattle.std.proofs.Common.{◌≡◌, ℕ, Bool, true, false, List, [], ◌∷◌, pos, refl, ap}
 use Rattle.prv_model.specs.TermOrder.{same_term}
-use Rattle.prv_model.specs.declared.op.TermOp.TheVariants.{Add, Sub, Lt, Le, Eq}
+use Rattle.prv_model.specs.declared.op.TermOp.TheVariants.{Lt, Le}
 use Rattle.prv_model.specs.declared.outcome.Ending.TheVariants.{Returned, Fault}
-use Rattle.prv_model.specs.declared.term.Term.{Term, out-Term}
-use Rattle.prv_model.specs.declared.term.Term.TheOpen.{Term-F}
+use Rattle.prv_model.specs.declared.term.Term.{Term}
 use Rattle.prv_model.specs.declared.term.Term.TheVariants.{Param, Op, Num}
 use Rattle.prv_model.proofs.OrderLemmas.{same_term-same}
 use Rattle.prv_pool.specs.Folding.{negation, node_negation}
-use Rattle.prv_pool.proofs.Shapes.{out-Op, out-Num, out-Param}
-use Rattle.prv_general.specs.Slices.{Slice}
+use Rattle.prv_pool.proofs.Shapes.{out-Op}
 use Rattle.prv_part.specs.Literals.{without_repeats, equality, equality_named}
 use Rattle.prv_part.specs.Parts.{rests}
-
 
 -- `0 <= a`, and `a <= 0`
 not_below : Term

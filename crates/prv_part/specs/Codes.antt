@@ -15,8 +15,8 @@ use Rattle.prv_part.specs.declared.shape.Shape.{Shape}
 abbrev pub finding_code : Coded Finding
 finding_code =
     code_by
-      (Pair × (ℕ × (List Term × (Option (List ℤ) × (Shape × (List Part × ℕ))))))
-      (coded× (pair_row.the_row).coded (coded× coded_ℕ (coded× (coded_list term_code) (coded× (coded_option (coded_list coded_ℤ)) (coded× (shape_row.the_row).coded (coded× (coded_list (part_row.the_row).coded) coded_ℕ))))))
-      (λ f. (f.pair, (f.entry, (f.region, (f.member, (f.shape, (f.parts, f.numbers)))))))
-      (λ p. record { pair = p.0; entry = p.1.0; region = p.1.1.0; member = p.1.1.1.0; shape = p.1.1.1.1.0; parts = p.1.1.1.1.1.0; numbers = p.1.1.1.1.1.1 })
-      (λ _. refl)
+    (Pair × (ℕ × (List Term × (Option (List ℤ) × (Shape × (List Part × ℕ))))))
+    (coded× (pair_row.the_row).coded (coded× coded_ℕ (coded× (coded_list term_code) (coded× (coded_option (coded_list coded_ℤ)) (coded× (shape_row.the_row).coded (coded× (coded_list (part_row.the_row).coded) coded_ℕ))))))
+    (λ f. (f.pair, (f.entry, (f.region, (f.member, (f.shape, (f.parts, f.numbers)))))))
+    (λ p. record { pair = p.0; entry = p.1.0; region = p.1.1.0; member = p.1.1.1.0; shape = p.1.1.1.1.0; parts = p.1.1.1.1.1.0; numbers = p.1.1.1.1.1.1 })
+    (λ _. refl)

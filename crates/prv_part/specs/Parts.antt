@@ -1,7 +1,7 @@
 -- The parts that a region is cut into, by the shape of what it is found to be.
 use Rattle.std.specs.List.{AllByRecursion}
 use Rattle.prv_model.specs.Boards.{IsTrueOf}
-use Rattle.std.specs.Prelude.{ℕ, List, [], ◌∷◌, ◌++◌, ℤ, if◌then◌else◌, map}
+use Rattle.std.specs.Prelude.{List, [], ◌∷◌, ◌++◌, ℤ, if◌then◌else◌, map}
 use Rattle.prv_model.specs.declared.entry.Kind.{Kind}
 use Rattle.prv_model.specs.declared.entry.Kind.TheVariants as k
 use Rattle.prv_model.specs.declared.entry.Reason.{Reason}

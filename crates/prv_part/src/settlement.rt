@@ -98,15 +98,7 @@ impl Settlement {
         requires { IsSettlement (finding (arc_value pair) entry region (Some member) Shape.Whole parts.items numbers) }
         ensures { result ≡ Ok (finding (arc_value pair) entry region (Some member) Shape.Whole parts.items numbers) }
     {
-        Ok(Settlement::run(
-            pair,
-            entry,
-            region,
-            member,
-            Shape::Whole,
-            parts,
-            numbers,
-        ))
+        Ok(Settlement::run(pair, entry, region, member, Shape::Whole, parts, numbers))
     }
 
     /// The settlement of a region in which the inputs like the member are cut in two.
@@ -121,15 +113,7 @@ impl Settlement {
         requires { IsSettlement (finding (arc_value pair) entry region (Some member) Shape.Split parts.items numbers) }
         ensures { result ≡ Ok (finding (arc_value pair) entry region (Some member) Shape.Split parts.items numbers) }
     {
-        Ok(Settlement::run(
-            pair,
-            entry,
-            region,
-            member,
-            Shape::Split,
-            parts,
-            numbers,
-        ))
+        Ok(Settlement::run(pair, entry, region, member, Shape::Split, parts, numbers))
     }
 
     /// The settlement of a region in which the runs of the inputs like the member pass the bound on turns.
@@ -144,15 +128,7 @@ impl Settlement {
         requires { IsSettlement (finding (arc_value pair) entry region (Some member) Shape.Beyond parts.items numbers) }
         ensures { result ≡ Ok (finding (arc_value pair) entry region (Some member) Shape.Beyond parts.items numbers) }
     {
-        Ok(Settlement::run(
-            pair,
-            entry,
-            region,
-            member,
-            Shape::Beyond,
-            parts,
-            numbers,
-        ))
+        Ok(Settlement::run(pair, entry, region, member, Shape::Beyond, parts, numbers))
     }
 
     /// A settlement whose member was run.

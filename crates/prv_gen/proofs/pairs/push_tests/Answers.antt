@@ -1,4 +1,4 @@
-use Rattle.std.proofs.Common.{◌≡◌, ℕ, suc, ◌+◌, ◌-◌, ◌++◌, List, refl, sym, ap, ◌∙◌, arith, append_assoc}
+use Rattle.std.proofs.Common.{◌≡◌, ℕ, suc, ◌+◌, ◌-◌, ◌++◌, List, sym, ap, ◌∙◌, arith, append_assoc}
 use Rattle.prv_gen.specs.Generated.{test_line, test_lines, drawn, next_state}
 use Rattle.prv_gen.proofs.pairs.push_tests.Goals as goal
 
@@ -22,5 +22,5 @@ loop-k-preserved c =
     let next = c.draw-bound.new.self.state in
     ap (λ (l : List ℕ). l ++ test_lines next (c.loop-k.k + 1 + 1) (c.args.size - (c.loop-k.k + 1))) c.in_ok-push_test.ensures
     ∙ more out (test_line c.draw-bound.result (c.loop-k.k + 1)) state c.loop-k.k (c.args.size - c.loop-k.k) (c.args.size - (c.loop-k.k + 1)) next
-      (omega arith) c.draw-bound.ensures.state (ap (λ (b : ℕ). test_line b (c.loop-k.k + 1)) c.draw-bound.ensures.value)
+    (omega arith) c.draw-bound.ensures.state (ap (λ (b : ℕ). test_line b (c.loop-k.k + 1)) c.draw-bound.ensures.value)
     ∙ c.loop-k.invariant
