@@ -1,0 +1,7 @@
+pub mod Negations
+pub mod Equalities
+pub mod Covering
+pub mod Partitions
+pub mod Truths
+pub mod Settling
+pub mod WorkedRows

@@ -1,0 +1,5 @@
+pub mod Literals
+pub mod Parts
+pub mod Settlements
+pub mod Codes
+pub mod Kept
