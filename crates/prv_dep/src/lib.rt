@@ -7,4 +7,4 @@
 mod expressions;
 mod writes;
 
-pub use writes::Writes;
+pub use writes::{Row, Writes};

@@ -13,8 +13,11 @@ use std::marker::Model;
 /// What is kept of a statement, with a bit for each variable.
 #[derive(Clone, Copy)]
 pub struct Row {
+    /// The variables that it may write.
     pub writes: u64,
+    /// The variables that its own expression reads.
     pub reads: u64,
+    /// Whether it may leave.
     pub leaves: bool,
 }
 
@@ -48,6 +51,13 @@ impl Writes {
         ensures { result ≡ length self.now }
     {
         self.rows.len()
+    }
+
+    /// What is kept of each statement, by its number.
+    pub fn rows(&self) -> &[Row]
+        ensures { result.now ≡ self.now }
+    {
+        self.rows.as_slice()
     }
 
     /// Whether a statement, or one inside it, may give this variable a value.

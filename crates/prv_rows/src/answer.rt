@@ -2,7 +2,7 @@ ghost use Rattle.std.specs.Prelude.{◌<◌, length};
 
 use crate::expansion::expanded;
 use crate::refusal::Refusal;
-use crate::stages::{pair_of, run_of, trace_of, tree_of, version_of};
+use crate::stages::{chosen_of, pair_of, run_of, trace_of, tree_of, version_of};
 use crate::tokens::{show_bytes, show_skeleton, show_tokens};
 use crate::trees::{show_all, show_ident};
 use prv_dep::Writes;
@@ -31,6 +31,7 @@ pub fn answer(alloc: Global, row: &str) -> Result<String, Refusal> {
         "pair" => pair_answer(alloc, text),
         "run" => run_answer(alloc, text),
         "trace" => trace_answer(alloc, text),
+        "choice" => choice_answer(alloc, text),
         "reach" => reach_answer(alloc, text),
         "words" => words_answer(alloc, text),
         _ => Err(Refusal::Row),
@@ -152,6 +153,21 @@ fn trace_answer(alloc: Global, text: &str) -> Result<String, Refusal> {
         } else {
             write!(line, "; {stmt} {what:?} {value} fault")?;
         }
+    }
+    Ok(line)
+}
+
+/// As for a run: of each evaluation 1 where it is kept and 0 where it isn't, and then the marks.
+fn choice_answer(alloc: Global, text: &str) -> Result<String, Refusal> {
+    let (numbers, text) = text.split_once(" : ").ok_or(Refusal::Row)?;
+    let text = expanded(alloc, text)?;
+    let chosen = chosen_of(alloc, numbers, text.as_slice())?;
+    let mut line = String::new(alloc);
+    for is_kept in chosen.events.as_slice() {
+        line.push(if *is_kept { '1' } else { '0' })?;
+    }
+    for mark in chosen.marks.as_slice() {
+        write!(line, " @{mark}")?;
     }
     Ok(line)
 }

@@ -2,12 +2,14 @@
 ghost use Rattle.std.specs.Prelude.{◌≡◌, length};
 
 use crate::refusal::Refusal;
+use prv_dep::Writes;
 use prv_lex::tokens;
 use prv_marks::pair;
 use prv_model::{Input, Outcome, Pair, Program};
 use prv_names::{Version, check};
 use prv_parse::{Tree, parse};
 use prv_run::Traced;
+use prv_select::{Chosen, select};
 use std::alloc::Global;
 
 pub fn tree_of(alloc: Global, text: &[u8]) -> Result<Tree, Refusal> {
@@ -68,4 +70,12 @@ pub fn run_of(alloc: Global, numbers: &str, text: &[u8]) -> Result<Outcome, Refu
 pub fn trace_of(alloc: Global, numbers: &str, text: &[u8]) -> Result<Traced, Refusal> {
     let case = case_of(alloc, numbers, text)?;
     Ok(prv_run::trace(alloc, &case.program, &case.input, case.turns)?)
+}
+
+/// Which evaluations of that run are kept, and which marks contribute.
+pub fn chosen_of(alloc: Global, numbers: &str, text: &[u8]) -> Result<Chosen, Refusal> {
+    let case = case_of(alloc, numbers, text)?;
+    let traced = prv_run::trace(alloc, &case.program, &case.input, case.turns)?;
+    let deps = Writes::of(alloc, &case.program)?;
+    Ok(select(alloc, &case.program, &traced, &deps)?)
 }

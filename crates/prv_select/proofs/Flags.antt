@@ -1,8 +1,7 @@
 -- There are as many flags as evaluations.
-use Rattle.std.proofs.Common.{◌≡◌, ℕ, ◌+◌, Bool, true, false, List, [], ◌∷◌, ◌++◌, length, replicate, refl, sym, ap, ◌∙◌, arith, length-append, if◌then◌else◌}
+use Rattle.std.proofs.Common.{◌≡◌, ℕ, Bool, true, false, [], ◌∷◌, length, replicate, refl, ◌∙◌, arith, length-append, if◌then◌else◌}
 use Rattle.std.proofs.lemmas.List.{length-replicate}
-use Rattle.prv_run.specs.Runs.{Run, Use, events}
-use Rattle.prv_run.specs.declared.event.Event.{Event}
+use Rattle.prv_run.specs.Runs.{Run, events}
 use Rattle.prv_select.specs.Choices.{Chosen, choose, count, keeps, needs, matters, no_mark}
 
 counted : (run : Run) → count run ≡ length (events run)

@@ -1,1 +1,11 @@
 pub mod Flags
+pub mod Masks
+pub mod MarkLaws
+pub mod PlaceLaws
+pub mod Placing
+pub mod Lying
+pub mod Walking
+pub mod Steps
+pub mod Choosing
+pub mod RowFacts
+pub mod Selecting

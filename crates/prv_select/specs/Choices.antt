@@ -1,5 +1,5 @@
 -- Which evaluations of a run its slice keeps. It goes backward, with the set of the variables whose values are needed.
-use Rattle.std.specs.Prelude.{ℕ, zero, suc, ◌+◌, nat_eq, Bool, true, false, ◌&&◌, ◌||◌, not, List, [], ◌∷◌, ◌++◌, length, replicate, Option, Some, None, ℤ, if◌then◌else◌, map, filter}
+use Rattle.std.specs.Prelude.{ℕ, zero, suc, ◌+◌, nat_eq, Bool, true, false, ◌&&◌, ◌||◌, not, List, [], ◌∷◌, ◌++◌, replicate, Option, Some, ℤ, if◌then◌else◌, filter}
 use Rattle.std.specs.List.{list_any}
 use Rattle.std.specs.Option.{option_map}
 use Rattle.prv_model.specs.declared.expr.Expr.{Expr}
@@ -74,6 +74,10 @@ abbrev pub numbers_from : ℕ → ℕ → List ℕ
 numbers_from k zero = []
 numbers_from k (suc n) = k ∷ numbers_from (suc k) n
 
+-- the marks of a set below a number, in rising order
+unfoldable pub rising_below : (ℕ → Bool) → ℕ → List ℕ
+rising_below marks n = filter marks (numbers_from 0 n)
+
 -- the marks of a set in rising order; a mark is a number of one byte
 abbrev pub rising : (ℕ → Bool) → List ℕ
-rising marks = filter marks (numbers_from 0 256)
+rising marks = rising_below marks 256

@@ -1,6 +1,12 @@
-//! Which evaluations of a run its slice keeps: the definitions, and what holds of them.
+//! Which evaluations of a run its slice keeps: the definitions, what holds of them, and the walk that
+//! chooses.
 #![tactic(auto)]
 
+mod choice;
 mod laws;
+mod marks;
+mod places;
+mod walk;
 
+pub use choice::{Chosen, select};
 pub use laws::one_flag_each;
