@@ -1,11 +1,11 @@
 -- A run changes the terms of those variables alone that its statement may write, and leaves terms over the parameters.
-use Rattle.std.proofs.Common.{◌≡◌, ℕ, zero, suc, ◌+◌, ◌==◌, Bool, true, false, ◌&&◌, ◌||◌, not, List, [], ◌∷◌, ◌++◌, length, Option, Some, None, ℤ, pos, negsuc, All, if◌then◌else◌, refl, sym, ap, ◌∙◌, subst, arith, slice_get, slice_set, map, nat_lt, nat_eq, unwrap_or, ◌<◌}
+use Rattle.std.proofs.Common.{◌≡◌, ℕ, zero, suc, ◌+◌, ◌==◌, Bool, true, false, ◌&&◌, List, [], ◌∷◌, ◌++◌, length, Option, Some, None, ℤ, pos, All, if◌then◌else◌, refl, sym, ap, ◌∙◌, subst, arith, slice_get, slice_set, map, nat_lt, nat_eq, unwrap_or}
 use Rattle.std.specs.List.{flat_map}
 use Rattle.std.proofs.lemmas.List.{length-set}
 use Rattle.prv_model.specs.Words.{IsWord, is_zero}
 use Rattle.prv_model.specs.Expressions.{value}
 use Rattle.prv_model.specs.Programs.{expr_over, stmt_over, node_stmt_over, all_true, stmt_count}
-use Rattle.prv_model.specs.Statements.{Frame, Step, exec, spend}
+use Rattle.prv_model.specs.Statements.{Frame, exec, spend}
 use Rattle.prv_model.specs.Terms.{IsTerm}
 use Rattle.prv_model.specs.declared.expr.Expr.{Expr}
 use Rattle.prv_model.specs.declared.outcome.Ending.{Ending}
@@ -15,7 +15,7 @@ use Rattle.prv_model.specs.declared.stmt.Stmt.TheFolds.{fold-roll-Stmt, para-rol
 use Rattle.prv_model.specs.declared.term.Term.{Term}
 use Rattle.prv_model.specs.declared.term.Term.TheVariants.{Num}
 use Rattle.prv_dep.specs.Dependences.{has, writes, node_writes}
-use Rattle.prv_dep.proofs.DependenceLaws.{and-left, and-right, neither-left, lacks-left, lacks-right, has-append}
+use Rattle.prv_dep.proofs.DependenceLaws.{and-left, and-right, neither-left, lacks-left, lacks-right}
 use Rattle.prv_run.specs.Runs.{Run, Use, runs, node_runs, loop_run, turn_run, branch, follow, where_goes, in_turn_run}
 use Rattle.prv_sym.specs.Symbols.{symbol, after, after_use}
 use Rattle.prv_sym.specs.Judgements.{AreTerms}
@@ -35,7 +35,8 @@ after-less n few more env new h a = record { size = a.size; terms = a.terms; oth
 
 after-then : (n : ℕ) (first rest : List ℕ) (env mid new : List Term) → IsAfter n first env mid → IsAfter n rest mid new → IsAfter n (first ++ rest) env new
 after-then n first rest env mid new a b = record {
-  size = b.size ∙ a.size; terms = b.terms;
+  size = b.size ∙ a.size;
+  terms = b.terms;
   others = λ v e. b.others v (lacks-right first rest v e) ∙ a.others v (lacks-left first rest v e);
 }
 
@@ -101,12 +102,12 @@ loop-after : (n k : ℕ) (test : Expr) (body : Stmt) → Afters n body → (turn
 loop-after n k test body h zero f env o t = unchanged n (writes body) env t
 loop-after n k test body h (suc more) f env o t =
     turn-after n (writes body) (value test f.state) f (λ g. Run.Then (runs body (k + 1) g) (follow (exec body g) (loop_run k test (exec body) (runs body (k + 1)) more))) env t
-      (λ g.
-        let one = h (k + 1) g env o t in
-        let mid = after (runs body (k + 1) g) env in
-        after-again n (writes body) env mid _ one
-          (follow-after n (writes body) (exec body g).ending (exec body g).frame _ mid one.terms
-            (λ f2. loop-after n k test body h more f2 mid (ap (λ (m : ℕ). stmt_over m body) one.size ∙ o) one.terms)))
+    (λ g.
+    let one = h (k + 1) g env o t in
+    let mid = after (runs body (k + 1) g) env in
+    after-again n (writes body) env mid _ one
+    (follow-after n (writes body) (exec body g).ending (exec body g).frame _ mid one.terms
+    (λ f2. loop-after n k test body h more f2 mid (ap (λ (m : ℕ). stmt_over m body) one.size ∙ o) one.terms)))
 
 abbrev Stmts : ℕ → Type 0
 Stmts n = List ((s : Stmt) × Afters n s)
@@ -122,8 +123,8 @@ block-after n (first ∷ rest) k g env o t =
     let mid = after (runs first.0 k g) env in
     let over : all_true (map (λ s. stmt_over (length mid) s) (stmts_of n rest)) ≡ true = rw one.size (and-right (stmt_over (length env) first.0) _ o) in
     after-then n (writes first.0) _ env mid _ one
-      (follow-after n _ (exec first.0 g).ending (exec first.0 g).frame _ mid one.terms
-        (λ f2. block-after n rest (k + stmt_count first.0) f2 mid over one.terms))
+    (follow-after n _ (exec first.0 g).ending (exec first.0 g).frame _ mid one.terms
+    (λ f2. block-after n rest (k + stmt_count first.0) f2 mid over one.terms))
 
 after-step : (n : ℕ) (z : Stmt-F ((s : Stmt) × Afters n s)) → Afters n (roll-Stmt (map-Stmt ((s : Stmt) × Afters n s) Stmt (λ e. e.0) z))
 after-step n Stmt-F.Skip = λ k g env o t.
@@ -146,8 +147,8 @@ after-step n (Stmt-F.If test chosen (Some other)) = λ k g env o t.
     let over : (expr_over (length env) test && (stmt_over (length env) chosen.0 && stmt_over (length env) other.0)) ≡ true = sym (fold-roll-Stmt Bool (node_stmt_over (length env)) (Stmt-F.If test chosen.0 (Some other.0))) ∙ o in
     let rest = and-right (expr_over (length env) test) _ over in
     rw (x, w) (branch-after n (writes chosen.0) (writes other.0) (value test g.state) _ _ env t
-      (chosen.1 (k + 1) g env (and-left (stmt_over (length env) chosen.0) _ rest) t)
-      (other.1 (k + 1 + stmt_count chosen.0) g env (and-right (stmt_over (length env) chosen.0) _ rest) t))
+    (chosen.1 (k + 1) g env (and-left (stmt_over (length env) chosen.0) _ rest) t)
+    (other.1 (k + 1 + stmt_count chosen.0) g env (and-right (stmt_over (length env) chosen.0) _ rest) t))
 after-step n (Stmt-F.While test body) = λ k g env o t.
     let x = ap (λ (r : ℕ → Frame → Run). r k g) (para-roll-Stmt (ℕ → Frame → Run) node_runs (Stmt-F.While test body.0)) in
     let w = fold-roll-Stmt (List ℕ) node_writes (Stmt-F.While test body.0) in

@@ -1,14 +1,14 @@
 -- Two runs of a program in lockstep: that of the input from which a slice is made, and that of another input on which the literals
 -- of the slice hold. Where they meet, the second has in each needed variable the value that the variable's term has on its input.
-use Rattle.std.proofs.Common.{◌≡◌, ℕ, zero, suc, ◌+◌, ◌-◌, ◌==◌, ◌<◌, Bool, true, false, ◌&&◌, ◌||◌, not, List, [], ◌∷◌, ◌++◌, length, Option, Some, None, ℤ, pos, negsuc, All, if◌then◌else◌, refl, sym, ap, ◌∙◌, subst, arith, slice_get, slice_set, map, nat_lt, nat_eq, unwrap_or, replicate, append-nil, append_assoc}
+use Rattle.std.proofs.Common.{◌≡◌, ℕ, zero, suc, ◌+◌, ◌-◌, ◌==◌, ◌<◌, Bool, true, false, ◌&&◌, ◌||◌, not, List, [], ◌∷◌, ◌++◌, length, Option, Some, None, ℤ, All, if◌then◌else◌, refl, sym, ap, ◌∙◌, subst, arith, slice_get, slice_set, map, nat_lt, nat_eq, replicate, append-nil, append_assoc}
 use Rattle.std.specs.Option.{option_map}
-use Rattle.std.specs.List.{flat_map, list_any}
-use Rattle.std.proofs.lemmas.List.{length-set, map-append, length-map}
+use Rattle.std.specs.List.{list_any}
+use Rattle.std.proofs.lemmas.List.{length-set, map-append}
 use Rattle.std.proofs.lemmas.Option.{slice_get-map}
 use Rattle.prv_model.specs.Words.{IsWord, is_zero, flag}
 use Rattle.prv_model.specs.Expressions.{value}
 use Rattle.prv_model.specs.Programs.{expr_over, stmt_over, node_stmt_over, all_true, stmt_count}
-use Rattle.prv_model.specs.Statements.{Frame, Step, exec, node_exec, goes, ends, spend, put, assign, and_then, after_ending, on_word, turn, loop, in_turn}
+use Rattle.prv_model.specs.Statements.{Frame, Step, exec, node_exec, goes, ends, spend, put, assign, after_ending, on_word, loop, in_turn}
 use Rattle.prv_model.specs.Terms.{IsTerm, term_value, holds}
 use Rattle.prv_model.proofs.TermLemmas.{holds-append}
 use Rattle.prv_model.specs.declared.expr.Expr.{Expr}
@@ -18,18 +18,17 @@ use Rattle.prv_model.specs.declared.stmt.Stmt.{Stmt, roll-Stmt, map-Stmt}
 use Rattle.prv_model.specs.declared.stmt.Stmt.TheOpen.{Stmt-F}
 use Rattle.prv_model.specs.declared.stmt.Stmt.TheFolds.{fold-roll-Stmt, para-roll-Stmt, ind-Stmt}
 use Rattle.prv_model.specs.declared.term.Term.{Term}
-use Rattle.prv_model.specs.declared.term.Term.TheVariants.{Num}
 use Rattle.prv_pool.specs.Folding.{negation, truth as truth_of}
 use Rattle.prv_pool.proofs.FoldLaws.{negation-value, truth-value, truth-term}
 use Rattle.prv_dep.specs.Dependences.{has, vars, may_fault, may_leave, node_may_leave, writes, node_writes, evaluates, branch_any, branch_list}
-use Rattle.prv_dep.proofs.DependenceLaws.{and-left, and-right, or-left, or-right, neither-left, neither-right, has-append, one-value, sure-value, IsQuiet, is-quiet}
-use Rattle.prv_run.specs.Runs.{Run, Use, runs, node_runs, evaluation, loop_run, turn_run, branch, follow, where_goes, in_turn_run}
+use Rattle.prv_dep.proofs.DependenceLaws.{and-left, and-right, or-left, or-right, neither-left, neither-right, one-value, sure-value, is-quiet}
+use Rattle.prv_run.specs.Runs.{Run, Use, runs, node_runs, evaluation, loop_run, branch, follow, where_goes, in_turn_run}
 use Rattle.prv_sym.specs.Symbols.{symbol, after, after_use}
 use Rattle.prv_sym.specs.Judgements.{AreTerms, IsSaid, state_of, has_value}
 use Rattle.prv_sym.proofs.SymbolLaws.{symbol-said, zero-flag}
 use Rattle.prv_select.specs.Choices.{Chosen, with_vars, without, keeps, needs, matters, choose, count, no_mark}
 use Rattle.prv_general.specs.Slices.{decided, literals_of, literals, outs_of, out_terms}
-use Rattle.prv_general.proofs.Environments.{IsAfter, is-after}
+use Rattle.prv_general.proofs.Environments.{is-after}
 
 -- the two runs stand alike: g is the frame of the one, f that of the other
 pub record Meets (y : List ℤ) (env : List Term) (needed : ℕ → Bool) (g f : Frame) : Type 0 where
@@ -142,13 +141,13 @@ set-agree : (y : List ℤ) (env : List Term) (t : Term) (state : List ℤ) (var 
     (v : ℕ) → needed v ≡ true → slice_get (slice_set state var k) v ≡ slice_get (state_of (slice_set env var t) y) v
 set-agree y env t state var k needed low size is others v e = rw (map-set y env var t) (elim (nat_eq var v) as (λ z. nat_eq var v ≡ z → slice_get (slice_set state var k) v ≡ slice_get (slice_set (state_of env y) var (term_value t y)) v) [
   | true ↦ λ same.
-    let P : ℕ → Type 0 = λ u. slice_get (slice_set state var k) u ≡ slice_get (slice_set (state_of env y) var (term_value t y)) u in
-    let eq : var ≡ v = grind (arith, same) in
-    subst P eq (same-place state var k (omega (arith, low, size)) ∙ ap (λ (n : ℤ). Some n) (sym (is (let Q : ℕ → Type 0 = λ u. needed u ≡ true in subst Q (sym eq) e)))
+      let P : ℕ → Type 0 = λ u. slice_get (slice_set state var k) u ≡ slice_get (slice_set (state_of env y) var (term_value t y)) u in
+      let eq : var ≡ v = grind (arith, same) in
+      subst P eq (same-place state var k (omega (arith, low, size)) ∙ ap (λ (n : ℤ). Some n) (sym (is (let Q : ℕ → Type 0 = λ u. needed u ≡ true in subst Q (sym eq) e)))
       ∙ sym (same-place (state_of env y) var (term_value t y) (subst (λ (l : ℕ). var < l) (sym (state-length env y)) low)))
   | false ↦ λ other.
-    let flip : nat_eq v var ≡ false = grind (arith, other) in
-    other-place state var v k flip ∙ others v other e ∙ sym (other-place (state_of env y) var v (term_value t y) flip)
+      let flip : nat_eq v var ≡ false = grind (arith, other) in
+      other-place state var v k flip ∙ others v other e ∙ sym (other-place (state_of env y) var v (term_value t y) flip)
 ] refl)
 
 set-meets : (y : List ℤ) (env : List Term) (t : Term) (g f : Frame) (var : ℕ) (m k : ℤ) (needed : ℕ → Bool) → var < length env → (needed var ≡ true → term_value t y ≡ k) → f.turns ≡ g.turns →
@@ -179,7 +178,7 @@ set-locked n y words num var e (Some a) g f env needed low over said true kept m
       ending = refl;
       outs = no-outs f.outs;
       meets = set-meets y env (symbol e env).term g f var a found.0 needed low (λ u. said.judged.term found.0 found.1) m.turns m.mine m.size
-        (λ v other e2. m.agree v (or-left (without var needed v) (has (vars e) v) (rw (other, e2) refl)));
+          (λ v other e2. m.agree v (or-left (without var needed v) (has (vars e) v) (rw (other, e2) refl)));
     })
 set-locked n y words num var e (Some a) g f env needed low over said false kept m h =
     let sure : evaluates (value e f.state) ≡ true = sure-value f.state e (ap (λ (l : ℕ). expr_over l e) m.size ∙ over) (neither-right (needed var) _ kept) in
@@ -243,9 +242,12 @@ return-locked n y words num e (Some a) g f env needed said m h =
 decides-alike : (n : ℕ) (y : List ℤ) (env : List Term) (e : Expr) (a : ℤ) → All IsWord y → IsSaid n y env e → holds ((symbol e env).safe ∷ (decided a (symbol e env).term ∷ [])) y ≡ true →
     (k : ℤ) × (value e (state_of env y) ≡ Some k) × (is_zero k ≡ is_zero a)
 decides-alike n y env e a words said h =
-    let found = goes-alike n y env e (decided a (symbol e env).term ∷ []) said h in
-    (found.0, found.1, decided-says n y (symbol e env).term (is_zero a) found.0 words said.over.term (said.judged.term found.0 found.1)
-      (second-holds (symbol e env).safe (decided a (symbol e env).term) y h))
+    let found = goes-alike n y env e (decided a (symbol e env).term ∷ []) said h in (
+      found.0,
+      found.1,
+      decided-says n y (symbol e env).term (is_zero a) found.0 words said.over.term (said.judged.term found.0 found.1)
+          (second-holds (symbol e env).safe (decided a (symbol e env).term) y h),
+    )
 
 assert-locked : (n : ℕ) (y : List ℤ) (words : All IsWord y) (num : ℕ) (e : Expr) (v : Option ℤ) (g f : Frame) (env : List Term) (needed : ℕ → Bool) → IsSaid n y env e →
     Meets y env (with_vars e needed) g f → holds (literals_of Use.Asserts e v env) y ≡ true →
@@ -325,15 +327,15 @@ turn-locked : (n : ℕ) (y : List ℤ) (words : All IsWord y) (num : ℕ) (test 
     holds (literals_of Use.Tests test (value test g.state) env ++ literals (branch (value test g.state) (if g.turns == 0 then Run.Idle else x) Run.Idle) env needed) y ≡ true →
     (Meets y env (choose x needed).needed (spend g) (spend f) → holds (literals x env needed) y ≡ true → Locked y x env needed f pn qn) →
     Locked y (Run.Then (Run.Eval num Use.Tests test (value test g.state)) (branch (value test g.state) (if g.turns == 0 then Run.Idle else x) Run.Idle)) env needed f
-      (on_word (value test g.state) g (λ m. if is_zero m then goes g else if g.turns == 0 then ends g Long else pn))
-      (on_word (value test f.state) f (λ k. if is_zero k then goes f else if f.turns == 0 then ends f Long else qn))
+    (on_word (value test g.state) g (λ m. if is_zero m then goes g else if g.turns == 0 then ends g Long else pn))
+    (on_word (value test f.state) f (λ k. if is_zero k then goes f else if f.turns == 0 then ends f Long else qn))
 turn-locked n y words num test x g f env needed pn qn said m h hx =
     if-locked n y words num test (value test g.state) (if g.turns == 0 then Run.Idle else x) Run.Idle g f env needed _ _ _ _ said m h
-      (λ still rest.
-        let same : (f.turns == 0) ≡ (g.turns == 0) = ap (λ (t : ℕ). t == 0) m.turns in
-        let P : Bool → Type 0 = λ z. Locked y (if g.turns == 0 then Run.Idle else x) env needed f (if g.turns == 0 then ends g Long else pn) (if z then ends f Long else qn) in
-        subst P (sym same) (at (g.turns == 0) still rest))
-      (λ still rest. idle-locked y env needed g f None still)
+    (λ still rest.
+    let same : (f.turns == 0) ≡ (g.turns == 0) = ap (λ (t : ℕ). t == 0) m.turns in
+    let P : Bool → Type 0 = λ z. Locked y (if g.turns == 0 then Run.Idle else x) env needed f (if g.turns == 0 then ends g Long else pn) (if z then ends f Long else qn) in
+    subst P (sym same) (at (g.turns == 0) still rest))
+    (λ still rest. idle-locked y env needed g f None still)
   where
     at : (z : Bool) → Meets y env (choose (if z then Run.Idle else x) needed).needed g f → holds (literals (if z then Run.Idle else x) env needed) y ≡ true →
         Locked y (if z then Run.Idle else x) env needed f (if z then ends g Long else pn) (if z then ends f Long else qn)
@@ -348,8 +350,8 @@ Locks n y s = (k : ℕ) (g f : Frame) (env : List Term) (needed : ℕ → Bool) 
 last-locked : (n : ℕ) (y : List ℤ) (words : All IsWord y) (num : ℕ) (test : Expr) (v : Option ℤ) (g f : Frame) (env : List Term) (needed : ℕ → Bool) → IsSaid n y env test →
     Meets y env (with_vars test needed) g f → holds (literals_of Use.Tests test v env) y ≡ true →
     Locked y (Run.Eval num Use.Tests test v) env needed f
-      (on_word v g (λ m. if is_zero m then goes g else if g.turns == 0 then ends g Long else ends (spend g) Long))
-      (on_word (value test f.state) f (λ k. if is_zero k then goes f else if f.turns == 0 then ends f Long else ends (spend f) Long))
+    (on_word v g (λ m. if is_zero m then goes g else if g.turns == 0 then ends g Long else ends (spend g) Long))
+    (on_word (value test f.state) f (λ k. if is_zero k then goes f else if f.turns == 0 then ends f Long else ends (spend f) Long))
 last-locked n y words num test None g f env needed said m h =
     let none : value test f.state ≡ None = value-alike y env test needed g f m ∙ faults-alike n y env test words said h in
     rw none (both-fault y (Run.Eval num Use.Tests test None) env needed g f refl refl (without-vars y env test needed g f m))
@@ -381,14 +383,14 @@ loop-locked n y words k test body lock (suc more) g f env needed ot ob terms m h
     let p = exec body (spend g) in
     let grown = is-after n body (k + 1) (spend g) env ob terms in
     turn-locked n y words k test (Run.Then a (follow p next)) g f env needed _ _ (symbol-said n y words env terms test ot) m h
-      (λ still rest.
-        let both = sym (holds-append (literals a env (choose (follow p next) needed).needed) (literals (follow p next) (after a env) needed) y) ∙ rest in
-        let one = lock (k + 1) (spend g) (spend f) env (choose (follow p next) needed).needed ob terms still (and-left _ _ both) in
-        seq-locked y a next env needed f p.ending (exec body (spend f)).ending p.frame (exec body (spend f)).frame (loop test (exec body) more)
-          (record { ending = one.ending; outs = one.outs; meets = one.meets })
-          (and-right (holds (literals a env (choose (follow p next) needed).needed) y) _ both)
-          (λ meets lits. loop-locked n y words k test body lock more p.frame (exec body (spend f)).frame (after a env) needed
-            (ap (λ (l : ℕ). expr_over l test) grown.size ∙ ot) (ap (λ (l : ℕ). stmt_over l body) grown.size ∙ ob) grown.terms meets lits))
+    (λ still rest.
+    let both = sym (holds-append (literals a env (choose (follow p next) needed).needed) (literals (follow p next) (after a env) needed) y) ∙ rest in
+    let one = lock (k + 1) (spend g) (spend f) env (choose (follow p next) needed).needed ob terms still (and-left _ _ both) in
+    seq-locked y a next env needed f p.ending (exec body (spend f)).ending p.frame (exec body (spend f)).frame (loop test (exec body) more)
+    (record { ending = one.ending; outs = one.outs; meets = one.meets })
+    (and-right (holds (literals a env (choose (follow p next) needed).needed) y) _ both)
+    (λ meets lits. loop-locked n y words k test body lock more p.frame (exec body (spend f)).frame (after a env) needed
+    (ap (λ (l : ℕ). expr_over l test) grown.size ∙ ot) (ap (λ (l : ℕ). stmt_over l body) grown.size ∙ ob) grown.terms meets lits))
 
 abbrev Stmts : ℕ → List ℤ → Type 0
 Stmts n y = List ((s : Stmt) × Locks n y s)
@@ -412,9 +414,9 @@ block-locked n y (first ∷ rest) k g f env needed o t m h =
     let one = first.1 k g f env (choose (follow p next) needed).needed of t m (and-left _ _ both) in
     let over : all_true (map (λ s. stmt_over (length (after a env)) s) (stmts_of n y rest)) ≡ true = rw grown.size (and-right (stmt_over (length env) first.0) _ o) in
     seq-locked y a next env needed f p.ending (exec first.0 f).ending p.frame (exec first.0 f).frame (in_turn (map (λ s. exec s) (stmts_of n y rest)))
-      (record { ending = one.ending; outs = one.outs; meets = one.meets })
-      (and-right (holds (literals a env (choose (follow p next) needed).needed) y) _ both)
-      (λ meets lits. block-locked n y rest (k + stmt_count first.0) p.frame (exec first.0 f).frame (after a env) needed over grown.terms meets lits)
+    (record { ending = one.ending; outs = one.outs; meets = one.meets })
+    (and-right (holds (literals a env (choose (follow p next) needed).needed) y) _ both)
+    (λ meets lits. block-locked n y rest (k + stmt_count first.0) p.frame (exec first.0 f).frame (after a env) needed over grown.terms meets lits)
 
 -- a statement that may not leave puts nothing out
 abbrev Silent : Stmt → Type 0
@@ -434,7 +436,7 @@ block-silent [] k g env e = refl
 block-silent (first ∷ rest) k g env e =
     rw (first.1 k g env (neither-left (may_leave first.0) _ e))
     (follow-silent (exec first.0 g).ending (exec first.0 g).frame _ (after (runs first.0 k g) env)
-      (λ g2. block-silent rest (k + stmt_count first.0) g2 (after (runs first.0 k g) env) (neither-right (may_leave first.0) _ e)))
+    (λ g2. block-silent rest (k + stmt_count first.0) g2 (after (runs first.0 k g) env) (neither-right (may_leave first.0) _ e)))
 
 set-silent : (k var : ℕ) (it : Expr) (v : Option ℤ) (env : List Term) → out_terms (Run.Eval k (Use.Sets var) it v) env ≡ []
 set-silent k var it None env = refl
@@ -456,7 +458,7 @@ silent-step (Stmt-F.If test chosen None) = λ k g env e.
     let still : (may_leave chosen.0 || false) ≡ false = neither-right (may_fault test) _ stays in
     let a = runs chosen.0 (k + 1) g in
     rw x (test-silent k test (value test g.state) (branch (value test g.state) a Run.Idle) env
-      (branch-silent (value test g.state) a Run.Idle env (chosen.1 (k + 1) g env (neither-left (may_leave chosen.0) _ still)) refl))
+    (branch-silent (value test g.state) a Run.Idle env (chosen.1 (k + 1) g env (neither-left (may_leave chosen.0) _ still)) refl))
 silent-step (Stmt-F.If test chosen (Some other)) = λ k g env e.
     let x = ap (λ (r : ℕ → Frame → Run). r k g) (para-roll-Stmt (ℕ → Frame → Run) node_runs (Stmt-F.If test chosen.0 (Some other.0))) in
     let stays : (may_fault test || (may_leave chosen.0 || may_leave other.0)) ≡ false = sym (fold-roll-Stmt Bool node_may_leave (Stmt-F.If test chosen.0 (Some other.0))) ∙ e in
@@ -464,8 +466,8 @@ silent-step (Stmt-F.If test chosen (Some other)) = λ k g env e.
     let a = runs chosen.0 (k + 1) g in
     let b = runs other.0 (k + 1 + stmt_count chosen.0) g in
     rw x (test-silent k test (value test g.state) (branch (value test g.state) a b) env (branch-silent (value test g.state) a b env
-      (chosen.1 (k + 1) g env (neither-left (may_leave chosen.0) _ still))
-      (other.1 (k + 1 + stmt_count chosen.0) g env (neither-right (may_leave chosen.0) _ still))))
+    (chosen.1 (k + 1) g env (neither-left (may_leave chosen.0) _ still))
+    (other.1 (k + 1 + stmt_count chosen.0) g env (neither-right (may_leave chosen.0) _ still))))
 silent-step (Stmt-F.While test body) = λ k g env e. absurd (cc (sym (fold-roll-Stmt Bool node_may_leave (Stmt-F.While test body.0)) ∙ e))
 silent-step (Stmt-F.Return it) = λ k g env e. absurd (cc (sym (fold-roll-Stmt Bool node_may_leave (Stmt-F.Return it)) ∙ e))
 silent-step (Stmt-F.Out it) = λ k g env e. absurd (cc (sym (fold-roll-Stmt Bool node_may_leave (Stmt-F.Out it)) ∙ e))
@@ -505,9 +507,9 @@ quiet-locked n y s k g f env needed over terms stays free m =
         mine = mine.size ∙ m.mine ∙ sym grown.size;
         size = other.size ∙ m.size ∙ sym grown.size;
         agree = λ v e.
-          let kept = unwritten needed (writes s) v free e in
-          other.others v kept ∙ m.agree v e ∙ slice_get-map (λ t. term_value t y) env v
-          ∙ ap (λ (o : Option Term). option_map (λ t. term_value t y) o) (sym (grown.others v kept)) ∙ sym (slice_get-map (λ t. term_value t y) (after (runs s k g) env) v);
+            let kept = unwritten needed (writes s) v free e in
+            other.others v kept ∙ m.agree v e ∙ slice_get-map (λ t. term_value t y) env v
+            ∙ ap (λ (o : Option Term). option_map (λ t. term_value t y) o) (sym (grown.others v kept)) ∙ sym (slice_get-map (λ t. term_value t y) (after (runs s k g) env) v);
       };
     }
 
@@ -532,7 +534,7 @@ choice-locked n y s k g f env needed test chosen other inner over terms x lv wr 
         subst R (sym x) (record { ending = l.ending; outs = l.outs; meets = l.meets })
     at false is meets lits =
         quiet-locked n y s k g f env needed over terms (lv ∙ neither-left (may_fault test || (may_leave chosen || branch_any (option_map (λ s. may_leave s) other))) _ is)
-          (ap (λ (l : List ℕ). list_any needed l) wr ∙ neither-right (may_fault test || (may_leave chosen || branch_any (option_map (λ s. may_leave s) other))) _ is) meets
+        (ap (λ (l : List ℕ). list_any needed l) wr ∙ neither-right (may_fault test || (may_leave chosen || branch_any (option_map (λ s. may_leave s) other))) _ is) meets
 
 lock-step : (n : ℕ) (y : List ℤ) (words : All IsWord y) (z : Stmt-F ((s : Stmt) × Locks n y s)) → Locks n y (roll-Stmt (map-Stmt ((s : Stmt) × Locks n y s) Stmt (λ e. e.0) z))
 lock-step n y words Stmt-F.Skip = λ k g f env needed o t m h.
@@ -561,9 +563,9 @@ lock-step n y words (Stmt-F.If test chosen None) = λ k g f env needed o t m h.
     let a = runs chosen.0 (k + 1) g in
     let inner = Run.Then (evaluation k Use.Tests test g) (branch (value test g.state) a Run.Idle) in
     choice-locked n y (roll-Stmt (Stmt-F.If test chosen.0 None)) k g f env needed test chosen.0 None inner o t x l w m h
-      (λ meets lits. rw e (if-locked n y words k test (value test g.state) a Run.Idle g f env needed _ _ _ _ (symbol-said n y words env t test eo) meets lits
-        (λ still ls. chosen.1 (k + 1) g f env needed (and-left (stmt_over (length env) chosen.0) _ rest) t still ls)
-        (λ still ls. idle-locked y env needed g f None still)))
+    (λ meets lits. rw e (if-locked n y words k test (value test g.state) a Run.Idle g f env needed _ _ _ _ (symbol-said n y words env t test eo) meets lits
+    (λ still ls. chosen.1 (k + 1) g f env needed (and-left (stmt_over (length env) chosen.0) _ rest) t still ls)
+    (λ still ls. idle-locked y env needed g f None still)))
 lock-step n y words (Stmt-F.If test chosen (Some other)) = λ k g f env needed o t m h.
     let x = ap (λ (r : ℕ → Frame → Run). r k g) (para-roll-Stmt (ℕ → Frame → Run) node_runs (Stmt-F.If test chosen.0 (Some other.0))) in
     let e = fold-roll-Stmt (Frame → Step) node_exec (Stmt-F.If test chosen.0 (Some other.0)) in
@@ -576,9 +578,9 @@ lock-step n y words (Stmt-F.If test chosen (Some other)) = λ k g f env needed o
     let b = runs other.0 (k + 1 + stmt_count chosen.0) g in
     let inner = Run.Then (evaluation k Use.Tests test g) (branch (value test g.state) a b) in
     choice-locked n y (roll-Stmt (Stmt-F.If test chosen.0 (Some other.0))) k g f env needed test chosen.0 (Some other.0) inner o t x l w m h
-      (λ meets lits. rw e (if-locked n y words k test (value test g.state) a b g f env needed _ _ _ _ (symbol-said n y words env t test eo) meets lits
-        (λ still ls. chosen.1 (k + 1) g f env needed (and-left (stmt_over (length env) chosen.0) _ rest) t still ls)
-        (λ still ls. other.1 (k + 1 + stmt_count chosen.0) g f env needed (and-right (stmt_over (length env) chosen.0) _ rest) t still ls)))
+    (λ meets lits. rw e (if-locked n y words k test (value test g.state) a b g f env needed _ _ _ _ (symbol-said n y words env t test eo) meets lits
+    (λ still ls. chosen.1 (k + 1) g f env needed (and-left (stmt_over (length env) chosen.0) _ rest) t still ls)
+    (λ still ls. other.1 (k + 1 + stmt_count chosen.0) g f env needed (and-right (stmt_over (length env) chosen.0) _ rest) t still ls)))
 lock-step n y words (Stmt-F.While test body) = λ k g f env needed o t m h.
     let x = ap (λ (r : ℕ → Frame → Run). r k g) (para-roll-Stmt (ℕ → Frame → Run) node_runs (Stmt-F.While test body.0)) in
     let e = fold-roll-Stmt (Frame → Step) node_exec (Stmt-F.While test body.0) in

@@ -1,9 +1,9 @@
 -- How conditions are made one after another.
-use Rattle.std.proofs.Common.{◌≡◌, ℕ, zero, suc, ◌+◌, ◌<◌, Bool, true, false, List, [], ◌∷◌, ◌++◌, length, take, get_or, slice_get, Option, Some, Result, Ok, Err, ℤ, All, if◌then◌else◌, refl, sym, ap, ◌∙◌, subst, arith}
+use Rattle.std.proofs.Common.{◌≡◌, ℕ, zero, suc, ◌+◌, ◌<◌, Bool, true, false, List, [], ◌∷◌, ◌++◌, length, take, get_or, slice_get, Some, Result, Ok, Err, ℤ, All, if◌then◌else◌, refl, sym, ap, ◌∙◌, subst, arith}
 use Rattle.std.specs.Prelude.{filter}
 use Rattle.prv_model.specs.Words.{is_zero}
 use Rattle.prv_model.specs.declared.term.Term.{Term}
-use Rattle.prv_pool.specs.Tables.{Table, Makes, has_term, add_term, term_at}
+use Rattle.prv_pool.specs.Tables.{Table, Makes, has_term, add_term}
 use Rattle.prv_pool.specs.Folding.{negation, truth}
 use Rattle.prv_pool.specs.declared.error.PoolError.{PoolError}
 use Rattle.prv_pool.specs.declared.error.PoolError.TheVariants.{Memory}

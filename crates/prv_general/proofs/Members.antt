@@ -1,15 +1,14 @@
 -- The literals of a slice hold on the input that it is made from: there each variable has the value of its term all along the run.
-use Rattle.std.proofs.Common.{◌≡◌, ℕ, zero, suc, ◌+◌, ◌-◌, ◌==◌, Bool, true, false, ◌&&◌, ◌||◌, not, List, [], ◌∷◌, ◌++◌, length, Option, Some, None, ℤ, pos, negsuc, All, if◌then◌else◌, refl, sym, ap, ◌∙◌, subst, slice_get, slice_set, map, nat_lt, nat_eq}
-use Rattle.std.specs.Option.{option_map}
+use Rattle.std.proofs.Common.{◌≡◌, ℕ, zero, suc, ◌+◌, ◌==◌, Bool, true, false, ◌&&◌, not, List, [], ◌∷◌, length, Option, Some, None, ℤ, All, if◌then◌else◌, refl, sym, ap, ◌∙◌, subst, slice_set, map, nat_lt}
 use Rattle.prv_model.specs.Words.{IsWord, is_zero, flag}
 use Rattle.prv_model.specs.Expressions.{value}
 use Rattle.prv_model.specs.Programs.{expr_over, stmt_over, node_stmt_over, all_true, stmt_count}
-use Rattle.prv_model.specs.Statements.{Frame, Step, exec, node_exec, goes, ends, spend, put, assign, after_ending, on_word, loop, in_turn}
+use Rattle.prv_model.specs.Statements.{Frame, Step, exec, node_exec, goes, ends, spend, assign, after_ending, on_word, loop, in_turn}
 use Rattle.prv_model.specs.Terms.{IsTerm, term_value, holds}
 use Rattle.prv_model.proofs.TermLemmas.{holds-append}
 use Rattle.prv_model.specs.declared.expr.Expr.{Expr}
 use Rattle.prv_model.specs.declared.outcome.Ending.{Ending}
-use Rattle.prv_model.specs.declared.outcome.Ending.TheVariants.{Returned, Fault, Assert, Long}
+use Rattle.prv_model.specs.declared.outcome.Ending.TheVariants.{Fault, Long}
 use Rattle.prv_model.specs.declared.stmt.Stmt.{Stmt, roll-Stmt, map-Stmt}
 use Rattle.prv_model.specs.declared.stmt.Stmt.TheOpen.{Stmt-F}
 use Rattle.prv_model.specs.declared.stmt.Stmt.TheFolds.{fold-roll-Stmt, para-roll-Stmt, ind-Stmt}
@@ -17,13 +16,13 @@ use Rattle.prv_model.specs.declared.term.Term.{Term}
 use Rattle.prv_pool.specs.Folding.{negation, truth as truth_of}
 use Rattle.prv_pool.proofs.FoldLaws.{negation-value, truth-value, truth-term}
 use Rattle.prv_dep.proofs.DependenceLaws.{and-left, and-right}
-use Rattle.prv_run.specs.Runs.{Run, Use, runs, node_runs, evaluation, loop_run, turn_run, branch, follow, where_goes, in_turn_run}
-use Rattle.prv_sym.specs.Symbols.{Symbol, symbol, after, after_use}
+use Rattle.prv_run.specs.Runs.{Run, Use, runs, node_runs, loop_run, branch, follow, where_goes, in_turn_run}
+use Rattle.prv_sym.specs.Symbols.{symbol, after, after_use}
 use Rattle.prv_sym.specs.Judgements.{AreTerms, IsSaid, state_of, has_value}
-use Rattle.prv_sym.proofs.SymbolLaws.{symbol-said, zero-flag}
+use Rattle.prv_sym.proofs.SymbolLaws.{symbol-said}
 use Rattle.prv_select.specs.Choices.{keeps, matters, choose}
-use Rattle.prv_general.specs.Slices.{decided, literals_of, literals}
-use Rattle.prv_general.proofs.Environments.{IsAfter, is-after}
+use Rattle.prv_general.specs.Slices.{literals_of, literals}
+use Rattle.prv_general.proofs.Environments.{is-after}
 use Rattle.prv_general.proofs.Lockstep.{map-set}
 
 -- a flag that is set is nonzero
@@ -141,15 +140,15 @@ loop-member n x words k test body member (suc more) g env needed ot ob t s =
     let said = symbol-said n x words env t test ot in
     let inner : IsMember x (Run.Then a (follow p next)) env needed (after_ending p.ending p.frame (loop test (exec body) more)) =
     seq-member x a next env needed p.ending p.frame (loop test (exec body) more)
-      (let one = member (k + 1) (spend g) env (choose (follow p next) needed).needed ob t s in record { lits = one.lits; state = one.state })
-      (λ st. loop-member n x words k test body member more p.frame (after a env) needed
-        (ap (λ (l : ℕ). expr_over l test) grown.size ∙ ot) (ap (λ (l : ℕ). stmt_over l body) grown.size ∙ ob) grown.terms st) in
+    (let one = member (k + 1) (spend g) env (choose (follow p next) needed).needed ob t s in record { lits = one.lits; state = one.state })
+    (λ st. loop-member n x words k test body member more p.frame (after a env) needed
+    (ap (λ (l : ℕ). expr_over l test) grown.size ∙ ot) (ap (λ (l : ℕ). stmt_over l body) grown.size ∙ ob) grown.terms st) in
     branch-member n x words k test (value test g.state) (if g.turns == 0 then Run.Idle else Run.Then a (follow p next)) Run.Idle g env needed _ _ said (ap (λ (l : List ℤ). value test l) s) s
-      (elim (g.turns == 0) as (λ z. IsMember x (if z then Run.Idle else Run.Then a (follow p next)) env needed (if z then ends g Long else after_ending p.ending p.frame (loop test (exec body) more))) [
-        | true ↦ record { lits = refl; state = s }
-        | false ↦ inner
-      ])
-      (record { lits = refl; state = s })
+    (elim (g.turns == 0) as (λ z. IsMember x (if z then Run.Idle else Run.Then a (follow p next)) env needed (if z then ends g Long else after_ending p.ending p.frame (loop test (exec body) more))) [
+      | true ↦ record { lits = refl; state = s }
+      | false ↦ inner
+    ])
+    (record { lits = refl; state = s })
 
 abbrev Stmts : ℕ → List ℤ → Type 0
 Stmts n x = List ((s : Stmt) × Members n x s)
@@ -170,8 +169,8 @@ block-member n x (first ∷ rest) k g env needed o t s =
     let over : all_true (map (λ s. stmt_over (length (after a env)) s) (stmts_of n x rest)) ≡ true = rw grown.size (and-right (stmt_over (length env) first.0) _ o) in
     let one = first.1 k g env (choose (follow p next) needed).needed of t s in
     seq-member x a next env needed p.ending p.frame (in_turn (map (λ s. exec s) (stmts_of n x rest)))
-      (record { lits = one.lits; state = one.state })
-      (λ st. block-member n x rest (k + stmt_count first.0) p.frame (after a env) needed over grown.terms st)
+    (record { lits = one.lits; state = one.state })
+    (λ st. block-member n x rest (k + stmt_count first.0) p.frame (after a env) needed over grown.terms st)
 
 choice-member : (x : List ℤ) (k : ℕ) (test : Expr) (chosen : Stmt) (other : Option Stmt) (inner : Run) (env : List Term) (needed : ℕ → Bool) (p : Step) →
     IsMember x inner env needed p → IsMember x (Run.Choice k test chosen other inner) env needed p
@@ -199,9 +198,9 @@ member-step n x words (Stmt-F.If test chosen None) = λ k g env needed o t s.
     let rest : (stmt_over (length env) chosen.0 && true) ≡ true = and-right (expr_over (length env) test) _ over in
     let said = symbol-said n x words env t test (and-left (expr_over (length env) test) _ over) in
     rw (r, e) (choice-member x k test chosen.0 None _ env needed _
-      (branch-member n x words k test (value test g.state) (runs chosen.0 (k + 1) g) Run.Idle g env needed _ _ said (ap (λ (l : List ℤ). value test l) s) s
-        (chosen.1 (k + 1) g env needed (and-left (stmt_over (length env) chosen.0) _ rest) t s)
-        (record { lits = refl; state = s })))
+    (branch-member n x words k test (value test g.state) (runs chosen.0 (k + 1) g) Run.Idle g env needed _ _ said (ap (λ (l : List ℤ). value test l) s) s
+    (chosen.1 (k + 1) g env needed (and-left (stmt_over (length env) chosen.0) _ rest) t s)
+    (record { lits = refl; state = s })))
 member-step n x words (Stmt-F.If test chosen (Some other)) = λ k g env needed o t s.
     let r = ap (λ (r : ℕ → Frame → Run). r k g) (para-roll-Stmt (ℕ → Frame → Run) node_runs (Stmt-F.If test chosen.0 (Some other.0))) in
     let e = fold-roll-Stmt (Frame → Step) node_exec (Stmt-F.If test chosen.0 (Some other.0)) in
@@ -209,9 +208,9 @@ member-step n x words (Stmt-F.If test chosen (Some other)) = λ k g env needed o
     let rest : (stmt_over (length env) chosen.0 && stmt_over (length env) other.0) ≡ true = and-right (expr_over (length env) test) _ over in
     let said = symbol-said n x words env t test (and-left (expr_over (length env) test) _ over) in
     rw (r, e) (choice-member x k test chosen.0 (Some other.0) _ env needed _
-      (branch-member n x words k test (value test g.state) (runs chosen.0 (k + 1) g) (runs other.0 (k + 1 + stmt_count chosen.0) g) g env needed _ _ said (ap (λ (l : List ℤ). value test l) s) s
-        (chosen.1 (k + 1) g env needed (and-left (stmt_over (length env) chosen.0) _ rest) t s)
-        (other.1 (k + 1 + stmt_count chosen.0) g env needed (and-right (stmt_over (length env) chosen.0) _ rest) t s)))
+    (branch-member n x words k test (value test g.state) (runs chosen.0 (k + 1) g) (runs other.0 (k + 1 + stmt_count chosen.0) g) g env needed _ _ said (ap (λ (l : List ℤ). value test l) s) s
+    (chosen.1 (k + 1) g env needed (and-left (stmt_over (length env) chosen.0) _ rest) t s)
+    (other.1 (k + 1 + stmt_count chosen.0) g env needed (and-right (stmt_over (length env) chosen.0) _ rest) t s)))
 member-step n x words (Stmt-F.While test body) = λ k g env needed o t s.
     let r = ap (λ (r : ℕ → Frame → Run). r k g) (para-roll-Stmt (ℕ → Frame → Run) node_runs (Stmt-F.While test body.0)) in
     let e = fold-roll-Stmt (Frame → Step) node_exec (Stmt-F.While test body.0) in

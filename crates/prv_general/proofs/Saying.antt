@@ -1,5 +1,5 @@
 -- A condition that is the number 1 holds everywhere, so a slice may leave it out.
-use Rattle.std.proofs.Common.{◌≡◌, ℕ, Bool, true, false, ◌&&◌, not, List, [], ◌∷◌, ◌++◌, Option, Some, None, ℤ, pos, refl, sym, ap, ◌∙◌, if◌then◌else◌, unwrap_or}
+use Rattle.std.proofs.Common.{◌≡◌, Bool, true, false, ◌&&◌, not, List, [], ◌∷◌, ℤ, pos, refl, sym, ap, ◌∙◌, if◌then◌else◌, unwrap_or}
 use Rattle.std.specs.Prelude.{filter}
 use Rattle.std.specs.Option.{option_map}
 use Rattle.std.specs.Ordering.{int_eq}
@@ -10,7 +10,7 @@ use Rattle.prv_model.proofs.TermLemmas.{term_value-Num}
 use Rattle.prv_model.specs.declared.term.Term.{Term, roll-Term, out-Term, roll-out-Term}
 use Rattle.prv_model.specs.declared.term.Term.TheOpen.{Term-F}
 use Rattle.prv_model.specs.declared.term.Term.TheVariants.{Num, rolls-Num}
-use Rattle.prv_pool.specs.Folding.{node_number, as_number, is_number}
+use Rattle.prv_pool.specs.Folding.{node_number, is_number}
 use Rattle.prv_general.specs.Slices.{says_something}
 
 -- a term that is the number 1

@@ -1,29 +1,27 @@
 -- What the slice of a program at an input says of every input.
-use Rattle.std.proofs.Common.{◌≡◌, ℕ, zero, suc, ◌+◌, ◌-◌, ◌≤◌, ◌<◌, Bool, true, false, List, [], ◌∷◌, ◌++◌, length, Option, Some, None, ℤ, pos, All, refl, sym, ap, ◌∙◌, subst, arith, slice_get, map, replicate, unwrap_or, append_assoc, append-nil, length-append, nat_lt}
+use Rattle.std.proofs.Common.{◌≡◌, ℕ, zero, suc, ◌+◌, ◌-◌, ◌≤◌, ◌<◌, Bool, true, List, [], ◌∷◌, ◌++◌, length, Option, Some, None, ℤ, pos, refl, sym, ap, ◌∙◌, subst, arith, slice_get, map, replicate, unwrap_or, append_assoc, append-nil, length-append}
 use Rattle.std.proofs.lemmas.List.{map-append, length-replicate}
-use Rattle.prv_model.specs.Words.{IsWord}
 use Rattle.prv_model.specs.Boards.{IsInput}
 use Rattle.prv_model.specs.Programs.{IsProgram, stmt_over, all_true}
-use Rattle.prv_model.specs.Statements.{Frame, Step, exec, exec_all, in_turn}
+use Rattle.prv_model.specs.Statements.{exec, exec_all, in_turn}
 use Rattle.prv_model.specs.Outcomes.{start, finish, outcome}
 use Rattle.prv_model.specs.Terms.{IsTerm, term_value, holds, node_is_term}
 use Rattle.prv_model.proofs.TermLemmas.{term_value-Param, term_value-Num}
 use Rattle.prv_model.specs.declared.outcome.Ending.{Ending}
 use Rattle.prv_model.specs.declared.outcome.Ending.TheVariants.{Returned}
-use Rattle.prv_model.specs.declared.outcome.Outcome.{Outcome}
 use Rattle.prv_model.specs.declared.program.Program.{Program}
 use Rattle.prv_model.specs.declared.stmt.Stmt.{Stmt}
 use Rattle.prv_model.specs.declared.term.Term.{Term, Term-F, fold-roll-Term}
 use Rattle.prv_model.specs.declared.term.Term.TheVariants.{Param, Num, rolls-Param}
-use Rattle.prv_run.specs.Runs.{Run, runs, run_of, in_turn_run}
+use Rattle.prv_run.specs.Runs.{runs, run_of, in_turn_run}
 use Rattle.prv_sym.specs.Symbols.{params_from, start_terms}
 use Rattle.prv_sym.specs.Judgements.{AreTerms, state_of}
 use Rattle.prv_sym.proofs.SymbolLaws.{num-term}
 use Rattle.prv_select.specs.Choices.{choose, nothing}
-use Rattle.prv_general.specs.Slices.{Slice, slice, literals, out_terms, end_terms}
+use Rattle.prv_general.specs.Slices.{slice, literals, out_terms, end_terms}
 use Rattle.prv_general.proofs.Lockstep.{Meets, Locked, Locks, is-locked, block-locked}
 use Rattle.prv_general.proofs.Saying.{holds-filtered}
-use Rattle.prv_general.proofs.Members.{IsMember, Members, is-member, block-member}
+use Rattle.prv_general.proofs.Members.{Members, is-member, block-member}
 
 -- the parameters have the input's words
 param-at : (front : List ℤ) (w : ℤ) (rest : List ℤ) → slice_get (front ++ w ∷ rest) (length front) ≡ Some w

@@ -1,7 +1,6 @@
 -- The literals and the out terms of a slice are terms over the program's parameters.
-use Rattle.std.proofs.Common.{◌≡◌, ℕ, zero, suc, ◌+◌, ◌==◌, Bool, true, false, ◌&&◌, not, List, [], ◌∷◌, ◌++◌, length, Option, Some, None, ℤ, pos, if◌then◌else◌, refl, sym, ap, ◌∙◌, subst, map, filter, nat_lt}
+use Rattle.std.proofs.Common.{◌≡◌, ℕ, zero, suc, ◌+◌, ◌==◌, Bool, true, false, ◌&&◌, List, [], ◌∷◌, ◌++◌, length, Option, Some, None, ℤ, pos, if◌then◌else◌, refl, sym, ap, ◌∙◌, subst, map, filter, nat_lt}
 use Rattle.std.specs.List.{AllByRecursion}
-use Rattle.std.specs.Option.{option_map}
 use Rattle.std.proofs.lemmas.List.{length-set}
 use Rattle.prv_model.specs.Words.{is_zero}
 use Rattle.prv_model.specs.Expressions.{value}
@@ -20,7 +19,7 @@ use Rattle.prv_dep.proofs.DependenceLaws.{and-left, and-right}
 use Rattle.prv_pool.specs.Folding.{negation, truth as truth_of}
 use Rattle.prv_pool.proofs.FoldLaws.{negation-term, truth-term}
 use Rattle.prv_run.specs.Runs.{Run, Use, runs, node_runs, loop_run, turn_run, branch, follow, where_goes, in_turn_run, run_of}
-use Rattle.prv_sym.specs.Symbols.{symbol, after, after_use, start_terms, params_from}
+use Rattle.prv_sym.specs.Symbols.{symbol, after, after_use, start_terms}
 use Rattle.prv_sym.specs.Judgements.{AreTerms, AreOver}
 use Rattle.prv_sym.proofs.SymbolLaws.{symbol-said, num-term}
 use Rattle.prv_select.specs.Choices.{keeps, matters, choose, nothing}
@@ -87,9 +86,10 @@ over-step m (Stmt-F.If test chosen None) = λ o k g.
 over-step m (Stmt-F.If test chosen (Some other)) = λ o k g.
     let over : (expr_over m test && (stmt_over m chosen.0 && stmt_over m other.0)) ≡ true = sym (fold-roll-Stmt Bool (node_stmt_over m) (Stmt-F.If test chosen.0 (Some other.0))) ∙ o in
     let rest = and-right (expr_over m test) _ over in
-    rw (ap (λ (r : ℕ → Frame → Run). r k g) (para-roll-Stmt (ℕ → Frame → Run) node_runs (Stmt-F.If test chosen.0 (Some other.0))))
-    (and-left (expr_over m test) _ over,
-      branch-over m (value test g.state) _ _ (chosen.1 (and-left (stmt_over m chosen.0) _ rest) (k + 1) g) (other.1 (and-right (stmt_over m chosen.0) _ rest) (k + 1 + stmt_count chosen.0) g))
+    rw (ap (λ (r : ℕ → Frame → Run). r k g) (para-roll-Stmt (ℕ → Frame → Run) node_runs (Stmt-F.If test chosen.0 (Some other.0)))) (
+      and-left (expr_over m test) _ over,
+      branch-over m (value test g.state) _ _ (chosen.1 (and-left (stmt_over m chosen.0) _ rest) (k + 1) g) (other.1 (and-right (stmt_over m chosen.0) _ rest) (k + 1 + stmt_count chosen.0) g),
+    )
 over-step m (Stmt-F.While test body) = λ o k g.
     let over : (expr_over m test && stmt_over m body.0) ≡ true = sym (fold-roll-Stmt Bool (node_stmt_over m) (Stmt-F.While test body.0)) ∙ o in
     rw (ap (λ (r : ℕ → Frame → Run). r k g) (para-roll-Stmt (ℕ → Frame → Run) node_runs (Stmt-F.While test body.0)))

@@ -1,5 +1,5 @@
 -- The nodes of a slice, made in three steps: those of the run, of what it puts out, and of its conditions.
-use Rattle.std.proofs.Common.{◌≡◌, ℕ, ◌<◌, Bool, List, [], ◌∷◌, ◌++◌, length, map, ℤ, Result, Ok, Err, All, refl, sym, ap, ◌∙◌, subst}
+use Rattle.std.proofs.Common.{◌≡◌, ℕ, ◌<◌, Bool, List, ◌++◌, length, map, ℤ, Result, All, sym, ap, ◌∙◌, subst}
 use Rattle.std.specs.Prelude.{filter}
 use Rattle.prv_model.specs.Boards.{IsInput}
 use Rattle.prv_model.specs.Statements.{exec_all}
@@ -15,7 +15,7 @@ use Rattle.prv_select.specs.Choices.{choose, nothing}
 use Rattle.prv_select.proofs.Flags.{one-flag-each}
 use Rattle.prv_sym.specs.Calls.{Names, AllStand}
 use Rattle.prv_sym.specs.Named.{run_symbols}
-use Rattle.prv_sym.specs.Symbols.{Symbol, start_terms}
+use Rattle.prv_sym.specs.Symbols.{start_terms}
 use Rattle.prv_sym.proofs.Naming.{Grows, names-as}
 use Rattle.prv_general.specs.Answers.{IsTraced}
 use Rattle.prv_general.specs.Slices.{literals, literals_named, out_terms, end_terms, says_something}

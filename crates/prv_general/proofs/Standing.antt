@@ -1,20 +1,19 @@
 -- Nodes that stand for terms: in a table that has grown, one more, and what follows for their numbers.
-use Rattle.std.proofs.Common.{◌≡◌, ℕ, zero, suc, ◌+◌, ◌<◌, Bool, true, false, ◌&&◌, not, List, [], ◌∷◌, ◌++◌, length, map, get_or, slice_get, Option, Some, ℤ, pos, refl, sym, ap, ◌∙◌, subst, arith, All, if◌then◌else◌, append-nil, unwrap_or}
+use Rattle.std.proofs.Common.{◌≡◌, ℕ, zero, suc, ◌<◌, Bool, true, false, ◌&&◌, not, List, [], ◌∷◌, ◌++◌, length, map, get_or, slice_get, Option, Some, ℤ, pos, refl, sym, ap, ◌∙◌, subst, arith, All, if◌then◌else◌, unwrap_or}
 use Rattle.std.specs.Prelude.{filter}
 use Rattle.std.specs.Option.{option_map}
 use Rattle.std.specs.Ordering.{int_eq}
 use Rattle.std.proofs.lemmas.List.Elements.{filter-append}
 use Rattle.prv_model.specs.declared.term.Term.{Term}
-use Rattle.prv_model.specs.declared.term.Term.TheVariants.{Num}
 use Rattle.prv_pool.specs.Nodes.{node_term, node_number}
 use Rattle.prv_pool.specs.Tables.{term_at}
 use Rattle.prv_pool.specs.declared.node.Node.{Node}
 use Rattle.prv_pool.specs.declared.node.Node.TheVariants as node
 use Rattle.prv_run.specs.declared.event.Event.{Event}
 use Rattle.prv_pool.proofs.FoldLemmas.{number-of-node}
-use Rattle.prv_sym.specs.Calls.{StandsFor, AllStand, symbol_at}
+use Rattle.prv_sym.specs.Calls.{StandsFor, AllStand}
 use Rattle.prv_sym.specs.Symbols.{Symbol}
-use Rattle.prv_sym.proofs.Naming.{Grows, stands-on, stands-in, stands-at, term-kept}
+use Rattle.prv_sym.proofs.Naming.{Grows, stands-on, stands-in, stands-at}
 use Rattle.prv_general.specs.Slices.{says_something}
 use Rattle.prv_general.specs.Walks.{node_is_one, puts, event_outs, symbols_at}
 

@@ -1,5 +1,5 @@
 -- What is made for a whole run is its slice.
-use Rattle.std.proofs.Common.{◌≡◌, ℕ, zero, suc, ◌+◌, ◌<◌, nat_lt, Bool, true, false, List, [], ◌∷◌, ◌++◌, length, map, Option, Some, None, ℤ, pos, Result, Ok, Err, refl, sym, ap, ◌∙◌, subst, arith, length-append, if◌then◌else◌}
+use Rattle.std.proofs.Common.{◌≡◌, ℕ, ◌+◌, nat_lt, Bool, true, false, List, [], ◌∷◌, ◌++◌, length, map, Option, Some, None, ℤ, pos, Result, Ok, Err, refl, sym, ap, ◌∙◌, arith, length-append, if◌then◌else◌}
 use Rattle.std.proofs.lemmas.List.{length-map}
 use Rattle.prv_model.specs.Boards.{IsInput}
 use Rattle.prv_model.specs.Statements.{exec_all}
@@ -23,7 +23,7 @@ use Rattle.prv_pool.specs.declared.error.PoolError.TheVariants as pool
 use Rattle.prv_general.specs.declared.error.GeneralError.{GeneralError}
 use Rattle.prv_general.specs.declared.error.GeneralError.TheVariants as general
 use Rattle.prv_general.specs.Answers.{passed_on}
-use Rattle.prv_general.specs.Slices.{slice, literals, literals_named, out_terms, end_terms}
+use Rattle.prv_general.specs.Slices.{literals, literals_named, out_terms, end_terms}
 use Rattle.prv_general.specs.Walks.{conditions, condition_names, event_outs, flagged, if_kept, along, end_by}
 use Rattle.prv_general.proofs.SliceLaws.{fixes-outcome, holds-member}
 use Rattle.prv_general.proofs.Alongs.{literals-run, named-run, outs-run, symbols-length}

@@ -1,8 +1,7 @@
 -- What the call that makes a slice answers: nodes that stand for the slice, and how a refusal is passed on.
-use Rattle.std.specs.Prelude.{◌≡◌, ℕ, List, [], ◌++◌, length, ℤ, map}
+use Rattle.std.specs.Prelude.{◌≡◌, ℕ, List, ℤ, map}
 use Rattle.prv_model.specs.Boards.{IsInput}
 use Rattle.prv_model.specs.Outcomes.{outcome}
-use Rattle.prv_model.specs.declared.outcome.Ending.{Ending}
 use Rattle.prv_model.specs.declared.program.Program.{Program}
 use Rattle.prv_model.specs.declared.term.Term.{Term}
 use Rattle.prv_pool.specs.Tables.{term_at}
@@ -10,7 +9,6 @@ use Rattle.prv_pool.specs.declared.error.PoolError.{PoolError}
 use Rattle.prv_pool.specs.declared.error.PoolError.TheVariants as pool
 use Rattle.prv_run.specs.Runs.{run_of, events}
 use Rattle.prv_run.specs.declared.event.Traced.{Traced}
-use Rattle.prv_select.specs.Choices.{choose, nothing}
 use Rattle.prv_sym.specs.Calls.{AllStand}
 use Rattle.prv_general.specs.Slices as slices
 use Rattle.prv_general.specs.declared.error.GeneralError.{GeneralError}

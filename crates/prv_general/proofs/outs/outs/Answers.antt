@@ -1,4 +1,4 @@
-use Rattle.std.proofs.Common.{◌≡◌, ◌<◌, ℕ, List, [], length, get_or, sym, subst, arith}
+use Rattle.std.proofs.Common.{◌<◌, ℕ, List, [], length, get_or, sym, subst, arith}
 use Rattle.prv_model.specs.declared.term.Term.{Term}
 use Rattle.prv_pool.specs.Tables.{term_at}
 use Rattle.prv_sym.specs.Calls.{AllStand}

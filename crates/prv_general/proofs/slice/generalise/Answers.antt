@@ -1,4 +1,4 @@
-use Rattle.std.proofs.Common.{◌≡◌, ◌<◌, ◌≤◌, length, Err, ap, arith}
+use Rattle.std.proofs.Common.{◌≡◌, length, Err, ap, arith}
 use Rattle.std.proofs.lemmas.Result.{err_from_is_err_and}
 use Rattle.prv_general.specs.Slices.{slice}
 use Rattle.prv_general.proofs.Standing.{all-long}
