@@ -9,3 +9,4 @@ pub mod Encoders
 pub mod Bits
 pub mod Roots
 pub mod Conditions
+pub mod Pools

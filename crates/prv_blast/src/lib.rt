@@ -11,6 +11,8 @@ mod error;
 mod formula;
 mod laws;
 mod order;
+#[cfg(test)]
+mod tests;
 
 pub use error::BlastError;
 pub use formula::{Blasted, MAX_CLAUSES, blast};

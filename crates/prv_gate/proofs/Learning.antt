@@ -40,7 +40,7 @@ signed-value known (negsuc n) e = by (known_value known (suc n)) e
     by (Some true) e = absurd cc
     by (Some false) e = refl
 
-signed-none : (known : List (Option Bool)) (z : ℤ) → signed_known known z ≡ None → known_value known (unsigned_abs z) ≡ None
+pub signed-none : (known : List (Option Bool)) (z : ℤ) → signed_known known z ≡ None → known_value known (unsigned_abs z) ≡ None
 signed-none known (pos n) e = e
 signed-none known (negsuc n) e = by (known_value known (suc n)) e
   where
@@ -49,10 +49,10 @@ signed-none known (negsuc n) e = by (known_value known (suc n)) e
     by (Some x) e = absurd cc
 
 -- the value of a variable after a literal was learned
-learned-same : (known : List (Option Bool)) (l : Lit) → IsLiteral (length known) l → known_value (learned known l) (variable l) ≡ Some (not (is_negative l))
+pub learned-same : (known : List (Option Bool)) (l : Lit) → IsLiteral (length known) l → known_value (learned known l) (variable l) ≡ Some (not (is_negative l))
 learned-same known l h = let at : variable l - 1 < length known = omega arith in get_or-set_same known (variable l - 1) (Some (not (is_negative l))) None at
 
-learned-other : (known : List (Option Bool)) (l : Lit) (k : ℕ) → IsLiteral (length known) l → 0 < k → k ≢ variable l → known_value (learned known l) k ≡ known_value known k
+pub learned-other : (known : List (Option Bool)) (l : Lit) (k : ℕ) → IsLiteral (length known) l → 0 < k → k ≢ variable l → known_value (learned known l) k ≡ known_value known k
 learned-other known l k h some apart = let other : k - 1 ≢ variable l - 1 = omega arith in get_or-set_other known (variable l - 1) (k - 1) (Some (not (is_negative l))) None other
 
 module _ (f : Formula) (inside : AllByRecursion (AllByRecursion (IsLiteral f.vars)) f.clauses) (known : List (Option Bool)) (size : length known ≡ f.vars)
@@ -111,12 +111,6 @@ examined-learns f inside known size k at = by (examined known None (get_or f.cla
     by Open is = learns-refl f known
     by (Forces l) is = learned-learns f inside known size k at l is
     by Conflict is = learns-refl f known
-
-pub examined-fewer : (f : Formula) → AllByRecursion (AllByRecursion (IsLiteral f.vars)) f.clauses → (known : List (Option Bool)) → length known ≡ f.vars → (k : ℕ) → k < length f.clauses → (l : Lit) →
-    examined known None (get_or f.clauses k []) ≡ Forces l → unknown_count (known_by known (examined known None (get_or f.clauses k []))) < unknown_count known
-examined-fewer f inside known size k at l is =
-    let count : unknown_count (known_by known (Forces l)) < unknown_count known = omega (arith, learned-count f inside known size k at l is) in
-    subst (λ (e : Examined). unknown_count (known_by known e) < unknown_count known) (sym is) count
 
 pub examined-conflict : (f : Formula) → AllByRecursion (AllByRecursion (IsLiteral f.vars)) f.clauses → (known : List (Option Bool)) → (k : ℕ) → k < length f.clauses →
     examined known None (get_or f.clauses k []) ≡ Conflict → has_conflict f.clauses known ≡ true
@@ -229,18 +223,6 @@ module _ (f : Formula) (inside : AllByRecursion (AllByRecursion (IsLiteral f.var
   pub pass-learns : Learns f first next
   pass-learns = learns-trans f first now next so_far (subst (Learns f now) (sym after_at) (examined-learns f inside now (so_far.size ∙ size) k at))
 
-  pub pass-open : Open ≡ examined now None lits → next ≡ now
-  pass-open e = after ∙ ap (known_by now) (sym e)
-
-  pub pass-opened : Open ≡ examined now None lits → now ≡ first → examined first None (get_or f.clauses k []) ≡ Open
-  pass-opened e is = ap (λ (a : List (Option Bool)). examined a None (get_or f.clauses k [])) (sym is) ∙ ap (examined now None) (sym same) ∙ sym e
-
-  pub pass-fewer : (l : Lit) → Forces l ≡ examined now None lits → unknown_count next < unknown_count first
-  pass-fewer l e =
-      let less = examined-fewer f inside now (so_far.size ∙ size) k at l (ap (examined now None) (sym same) ∙ sym e) in
-      let count : unknown_count next ≡ unknown_count (known_by now (examined now None (get_or f.clauses k []))) = ap unknown_count after_at in
-      omega (arith, less, count, so_far.fewer)
-
   pub pass-conflict : Conflict ≡ examined now None lits → has_conflict f.clauses next ≡ true
   pass-conflict e =
       let conflict = examined-conflict f inside now k at (ap (examined now None) (sym same) ∙ sym e) in
@@ -252,32 +234,3 @@ pub any_default : {A : Type 0} (xs : List A) (i : ℕ) (d e : A) → i < length 
 any_default [] i d e h = absurd (omega arith)
 any_default (x ∷ xs) zero d e h = refl
 any_default (x ∷ xs) (suc i) d e h = any_default xs i d e (omega arith)
-
--- passes over the clauses until one finds nothing
-module _ (cs : List (List Lit)) (first now next : List (Option Bool)) (inside : AllByRecursion (AllByRecursion (IsLiteral (length first))) cs)
-    (so_far : Learns (record { vars = length first; clauses = cs }) first now) where
-  module _ (pass : Learns (record { vars = length now; clauses = cs }) now next) where
-    pub passes-learn : Learns (record { vars = length first; clauses = cs }) first next
-    passes-learn =
-        learns-trans (record { vars = length first; clauses = cs }) first now next so_far
-        (subst (λ (n : ℕ). Learns (record { vars = n; clauses = cs }) now next) so_far.size pass)
-
-  module _ (start : List (Option Bool)) (short : length start ≤ length first) (same : (k : ℕ) → known_value start k ≡ known_value first k) where
-    begin-reached : IsReached (record { vars = length first; clauses = cs }) start first
-    begin-reached calm k x some e =
-        rounds-up (record { vars = length first; clauses = cs }) start short 0 (length first + 1 - unknown_count first) (omega arith) k x some (same k ∙ e)
-
-    begin-within : Within start now
-    begin-within k x some e = so_far.keeps k x some (sym (same k) ∙ e)
-
-    pub passes-calm : ((k : ℕ) → k < length cs → examined now None (get_or cs k []) ≡ Open) → has_conflict cs (closure (record { vars = length first; clauses = cs }) start) ≡ false
-    passes-calm opened = open-calm (record { vars = length first; clauses = cs }) inside start now short begin-within opened
-
-    pub passes-closure : ((k : ℕ) → k < length cs → examined now None (get_or cs k []) ≡ Open) → next ≡ now → next ≡ closure (record { vars = length first; clauses = cs }) start
-    passes-closure opened stays =
-        stays ∙ open-closure (record { vars = length first; clauses = cs }) inside start now short begin-within opened so_far.size (so_far.reached start short begin-reached)
-
-    pub passes-conflict : Learns (record { vars = length now; clauses = cs }) now next → has_conflict cs next ≡ true →
-        has_conflict cs (closure (record { vars = length first; clauses = cs }) start) ≡ true
-    passes-conflict pass conflict =
-        conflict-closure (record { vars = length first; clauses = cs }) inside start next short ((passes-learn pass).reached start short begin-reached) conflict

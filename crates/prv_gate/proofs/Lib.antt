@@ -12,3 +12,7 @@ pub mod Asserting
 pub mod Examination
 pub mod Reaching
 pub mod Learning
+pub mod Opening
+pub mod Entering
+pub mod Pending
+pub mod Following

@@ -8,3 +8,4 @@ pub mod Assertions
 pub mod Growth
 pub mod Adders
 pub mod Examining
+pub mod Occurrences

@@ -11,7 +11,8 @@ ghost use Rattle.prv_gate.specs.Assertions.{settled, ended};
 
 use crate::bit::Bit;
 use crate::gate::Gate;
-use crate::propagate::{propagate, value_of};
+use crate::propagate::value_of;
+use crate::propagator::Propagator;
 use indexmap::IndexMap;
 use prv_cnf::{Cnf, Lit, MAX_VARS};
 use std::alloc::{AllocError, Global};
@@ -25,18 +26,19 @@ use std::marker::Model;
 pub struct Builder {
     cnf: Cnf,
     gates: IndexMap<Gate, Lit>,
-    known: Vec<Option<bool>>,
+    propagator: Propagator,
     is_ended: bool,
 }
 
 impl Model for Builder {
     ghost use Rattle.prv_gate.specs.Circuits.{Circuit, IsCircuit};
+    ghost use Rattle.prv_gate.specs.Occurrences.{AreOpen};
 
     ghost Value = { Circuit };
 
-    ghost view = { λ b. record { formula = b.cnf; gates = b.gates.entries; known = b.known.items; is_ended = b.is_ended } };
+    ghost view = { λ b. record { formula = b.cnf; gates = b.gates.entries; known = b.propagator.known.items; is_ended = b.is_ended } };
 
-    ghost invariant = { λ b. IsCircuit (record { formula = b.cnf; gates = b.gates.entries; known = b.known.items; is_ended = b.is_ended }) };
+    ghost invariant = { λ b. IsCircuit (record { formula = b.cnf; gates = b.gates.entries; known = b.propagator.known.items; is_ended = b.is_ended }) × AreOpen b.cnf.clauses b.propagator.known.items b.propagator.entered b.propagator.occurrences };
 }
 
 impl Builder {
@@ -48,7 +50,7 @@ impl Builder {
         Builder {
             cnf: Cnf::new(alloc, vars),
             gates: IndexMap::new(alloc),
-            known: Vec::new(alloc),
+            propagator: Propagator::new(alloc),
             is_ended: false,
         }
     }
@@ -66,7 +68,7 @@ impl Builder {
         ensures bound { result ≤ MAX_VARS }
         ensures circuit { IsCircuit self.now }
     {
-        let _ = &self.known;
+        let _ = &self.propagator;
         self.cnf.vars()
     }
 
@@ -98,14 +100,14 @@ impl Builder {
 
     /// The allocator from which the circuit grows.
     pub(crate) fn alloc(&self) -> Global {
-        *self.known.allocator()
+        self.propagator.alloc()
     }
 
     /// What is known of a literal.
     fn value(&self, lit: Lit) -> Option<bool>
         ensures { result ≡ known_literal self.now.known lit }
     {
-        value_of(self.known.as_slice(), lit)
+        value_of(self.propagator.known(), lit)
     }
 
     /// Adds a variable, and answers its literal.
@@ -149,11 +151,10 @@ impl Builder {
     pub(crate) fn settle(&mut self) -> Result<(), AllocError>
         ensures { OnOk result (self.new ≡ settled self.old) }
     {
-        self.known.resize(self.cnf.vars() as usize, None)?;
-        if propagate(self.cnf.clauses(), self.known.as_mut_slice()) {
+        let vars = self.cnf.vars();
+        if self.propagator.propagate(vars, self.cnf.clauses())? {
             return Ok(());
         }
-        self.known.clear();
         self.end()
     }
 
@@ -162,7 +163,7 @@ impl Builder {
         ensures { OnOk result (self.new ≡ ended self.old) }
     {
         self.cnf.push_clause(&[])?;
-        self.known.clear();
+        self.propagator.clear();
         self.is_ended = true;
         Ok(())
     }

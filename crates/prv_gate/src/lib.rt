@@ -11,7 +11,9 @@ mod gate;
 mod gates;
 mod majority;
 mod mux;
+mod occurrences;
 mod propagate;
+mod propagator;
 #[cfg(test)]
 mod tests;
 

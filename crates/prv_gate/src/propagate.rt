@@ -1,12 +1,15 @@
-//! Unit propagation over all clauses, until nothing more follows.
-ghost use Rattle.std.specs.Prelude.{◌≡◌, ℕ, ◌<◌, ◌≤◌, Bool, true, false, None, [], List, Option, length, slice_index_or};
+//! Unit propagation: each clause is examined once more when one of its literals became false.
+ghost use Rattle.std.specs.Prelude.{◌≡◌, ℕ, ◌<◌, ◌≤◌, true, false, None, length, IfOk, OnOk};
 ghost use Rattle.std.specs.List.{AllByRecursion};
 ghost use Rattle.prv_cnf.specs.Formulas.{IsLiteral};
-ghost use Rattle.prv_gate.specs.Knowledge.{known_literal, known_value};
-ghost use Rattle.prv_gate.specs.Propagation.{closure, has_conflict};
-ghost use Rattle.prv_gate.specs.Examining.{examined, known_by, learned, unknown_count, Learns};
+ghost use Rattle.prv_gate.specs.Knowledge.{known_literal};
+ghost use Rattle.prv_gate.specs.Propagation.{has_conflict};
+ghost use Rattle.prv_gate.specs.Examining.{examined, known_by, learned, Learns};
+ghost use Rattle.prv_gate.specs.Occurrences.{AreEntered, ArePending, IsOpen};
 
-use prv_cnf::{Clause, Lit};
+use crate::occurrences::Occurrences;
+use prv_cnf::{Clause, Lit, MAX_VARS};
+use std::alloc::AllocError;
 
 /// What a clause says, where some of its literals are known.
 #[derive(Clone, Copy, Debug)]
@@ -16,14 +19,6 @@ pub(crate) enum Examined {
     /// All literals but this one are false.
     Forces(Lit),
     /// All literals are false.
-    Conflict,
-}
-
-/// What a pass over the clauses found.
-#[derive(Clone, Copy, Debug)]
-pub(crate) enum Found {
-    Nothing,
-    Values,
     Conflict,
 }
 
@@ -82,43 +77,29 @@ fn learn(known: &mut [Option<bool>], lit: Lit)
     known[lit.variable() as usize - 1] = Some(lit.0 >= 0);
 }
 
-/// Examines each clause once.
-fn sweep(clauses: &[Clause], known: &mut [Option<bool>]) -> Found
-    requires { AllByRecursion (AllByRecursion (IsLiteral (length known.old))) clauses.now }
-    ensures learns { Learns (record { vars = length known.old; clauses = clauses.now }) known.old known.new }
-    ensures nothing { result ≡ Found.Nothing → known.new ≡ known.old }
-    ensures open { result ≡ Found.Nothing → (k : ℕ) → k < length clauses.now → examined known.old None (slice_index_or clauses.now k []) ≡ Examined.Open }
-    ensures values { result ≡ Found.Values → unknown_count known.new < unknown_count known.old }
-    ensures conflict { result ≡ Found.Conflict → has_conflict clauses.now known.new ≡ true }
-{
-    let mut is_changed = false;
-    for clause in clauses {
-        match visit(known, clause.lits()) {
-            Examined::Open => {}
-            Examined::Forces(_) => is_changed = true,
-            Examined::Conflict => return Found::Conflict,
-        }
-    }
-    if is_changed {
-        Found::Values
-    } else {
-        Found::Nothing
-    }
-}
-
-/// Makes known all that follows from the clauses and from what is known, or answers false where the
+/// Examines the clauses that are pending, and those in which a literal became false, until none is left:
+/// then all that follows from the clauses and from what is known is known. It answers false where the
 /// clauses contradict it.
-pub(crate) fn propagate(clauses: &[Clause], known: &mut [Option<bool>]) -> bool
-    requires { AllByRecursion (AllByRecursion (IsLiteral (length known.old))) clauses.now }
-    ensures calm { result ≡ true → (start : List (Option Bool)) → length start ≤ length known.old → ((k : ℕ) → known_value start k ≡ known_value known.old k) → has_conflict clauses.now (closure (record { vars = length known.old; clauses = clauses.now }) start) ≡ false }
-    ensures closure { result ≡ true → (start : List (Option Bool)) → length start ≤ length known.old → ((k : ℕ) → known_value start k ≡ known_value known.old k) → known.new ≡ closure (record { vars = length known.old; clauses = clauses.now }) start }
-    ensures conflict { result ≡ false → (start : List (Option Bool)) → length start ≤ length known.old → ((k : ℕ) → known_value start k ≡ known_value known.old k) → has_conflict clauses.now (closure (record { vars = length known.old; clauses = clauses.now }) start) ≡ true }
+pub(crate) fn propagate(
+    clauses: &[Clause],
+    occurrences: &Occurrences,
+    known: &mut [Option<bool>],
+    mut pending: Vec<u32>,
+) -> Result<bool, AllocError>
+    requires vars { length known.old ≤ MAX_VARS }
+    requires literals { AllByRecursion (AllByRecursion (IsLiteral (length known.old))) clauses.now }
+    requires entered { AreEntered clauses.now (length clauses.now) occurrences.now }
+    requires pending { ArePending clauses.now known.old pending.items }
+    ensures learns { OnOk result (Learns (record { vars = length known.old; clauses = clauses.now }) known.old known.new) }
+    ensures open { IfOk result (λ calm. calm ≡ true → (k : ℕ) → k < length clauses.now → IsOpen clauses.now known.new k) }
+    ensures conflict { IfOk result (λ calm. calm ≡ false → has_conflict clauses.now known.new ≡ true) }
 {
-    loop {
-        match sweep(clauses, known) {
-            Found::Nothing => return true,
-            Found::Values => {}
-            Found::Conflict => return false,
+    while let Some(number) = pending.pop() {
+        match visit(known, clauses[number as usize].lits()) {
+            Examined::Open => {}
+            Examined::Forces(lit) => pending.extend_from_slice(occurrences.list(lit.negated()))?,
+            Examined::Conflict => return Ok(false),
         }
     }
+    Ok(true)
 }

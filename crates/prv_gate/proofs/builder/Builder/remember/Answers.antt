@@ -17,13 +17,13 @@ invariant_of-self-2 c =
     let value : (v : ℕ → Bool) → IsModel v c.self.inside.cnf → is_literal_true v c.args.out ≡ gate_value v c.args.gate = rw (← c.self.view_is) at c.requires.value in
     let entries : c.insert.new.self.entries ≡ c.self.inside.gates.entries ++ (c.args.gate, c.args.out) ∷ [] =
     c.in_ok-insert.ensures.entries ∙ insert_entry-gate _ c.args.gate c.args.out c.self.inside.gates.entries (eq-same c.args.gate) none in
-    let P : List (Gate × Lit) → Type 0 = λ gates. IsCircuit (record { formula = c.self.inside.cnf; gates = gates; known = c.self.inside.known.items; is_ended = c.self.inside.is_ended }) in
-    subst P (sym entries) (IsCircuit-gate c.args.gate c.args.out _ inside value c.self.invariant)
+    let P : List (Gate × Lit) → Type 0 = λ gates. IsCircuit (record { formula = c.self.inside.cnf; gates = gates; known = c.self.inside.propagator.known.items; is_ended = c.self.inside.is_ended }) in
+    (subst P (sym entries) (IsCircuit-gate c.args.gate c.args.out _ inside value c.self.invariant.0), c.self.invariant.1)
 
 pub returns : goal.returns
 returns c =
     let none : find_gate c.args.gate c.self.inside.gates.entries ≡ None = rw (← c.self.view_is) at c.requires.new in
     let entries : c.insert.new.self.entries ≡ c.self.inside.gates.entries ++ (c.args.gate, c.args.out) ∷ [] =
     c.in_ok-insert.ensures.entries ∙ insert_entry-gate _ c.args.gate c.args.out c.self.inside.gates.entries (eq-same c.args.gate) none in
-    let make : List (Gate × Lit) → Circuit = λ gates. record { formula = c.self.inside.cnf; gates = gates; known = c.self.inside.known.items; is_ended = c.self.inside.is_ended } in
+    let make : List (Gate × Lit) → Circuit = λ gates. record { formula = c.self.inside.cnf; gates = gates; known = c.self.inside.propagator.known.items; is_ended = c.self.inside.is_ended } in
     ap make entries ∙ ap (with_gate c.args.gate c.args.out) c.self.view_is
