@@ -62,10 +62,10 @@ fn show(alloc: Global, program: &Program, pool: &Pool, slice: &Slice) -> Result<
     requires literals { All (λ n. n < length pool.now.terms) slice.now.literals }
     requires outs { All (λ n. n < length pool.now.terms) slice.now.outs }
     ensures shown { IfOk result (λ report. report ≡ slice_shown program.now (record {
-        literals = map (term_at pool.now.terms) slice.now.literals;
-        outs = map (term_at pool.now.terms) slice.now.outs;
-        how = slice.now.how;
-        marks = slice.now.marks;
+      literals = map (term_at pool.now.terms) slice.now.literals;
+      outs = map (term_at pool.now.terms) slice.now.outs;
+      how = slice.now.how;
+      marks = slice.now.marks;
     })) }
     ensures memory { IfErr result (λ why. why ≡ Refusal.Memory) }
 {
