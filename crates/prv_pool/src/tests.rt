@@ -146,6 +146,41 @@ fn operators_fold_by_the_first_rule_that_applies(rt: HostRuntime) -> Result<(), 
     Ok(())
 }
 
+fn pick(rt: &impl Abort, pool: &mut Pool, c: u32, a: u32, b: u32) -> Result<u32, PoolError> {
+    let count = pool.len();
+    assert!(rt; c < count && a < count && b < count);
+    pool.pick(c, a, b)
+}
+
+fn not(rt: &impl Abort, pool: &mut Pool, a: u32) -> Result<u32, PoolError> {
+    let count = pool.len();
+    assert!(rt; a < count);
+    pool.not(a)
+}
+
+fn truth(rt: &impl Abort, pool: &mut Pool, a: u32) -> Result<u32, PoolError> {
+    let count = pool.len();
+    assert!(rt; a < count);
+    pool.truth(a)
+}
+
+/// With ample memory each call answers.
+#[test]
+fn calls_answer_the_nodes_of_their_terms(rt: HostRuntime) -> Result<(), Fail> {
+    let mut pool = Pool::new(rt.alloc(), 100);
+    let a = pool.param(0)?;
+    let two = pool.num(2)?;
+    let sum = op(&rt, &mut pool, TermOp::Add, a, two)?;
+    let chosen = pick(&rt, &mut pool, sum, two, a)?;
+    let nonzero = truth(&rt, &mut pool, sum)?;
+    let zero = not(&rt, &mut pool, a)?;
+    assert!(rt; node(&rt, &pool, sum) == Node::Op(TermOp::Add, a, two));
+    assert!(rt; node(&rt, &pool, chosen) == Node::Pick(sum, two, a));
+    assert!(rt; node(&rt, &pool, nonzero) == Node::Op(TermOp::Ne, sum, 4));
+    assert!(rt; node(&rt, &pool, zero) == Node::Op(TermOp::Eq, a, 4));
+    Ok(())
+}
+
 /// The node of `a < 5`, which a number may stand before.
 fn less_than_five(rt: &impl Abort, pool: &mut Pool, number_first: bool) -> Result<u32, PoolError>
     ensures { IfOk result (λ n. n < length pool.new.terms) }
