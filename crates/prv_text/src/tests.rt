@@ -1,10 +1,7 @@
 use crate::entry::push_entry;
-use crate::slice::slice_text;
 use crate::term::push_literal;
-use prv_model::{Ending, Entry, Input, Kind, Name, Reason, Term, TermOp};
-use prv_pool::{Pool, PoolError};
+use prv_model::{Entry, Input, Kind, Name, Reason, Term, TermOp};
 use sqlite_items::{Boxed, Items};
-use std::process::Abort;
 use std::test::Fail;
 
 /// Names of 1, 63, 13 and 14 bytes.
@@ -180,43 +177,5 @@ fn conditions(rt: HostRuntime) -> Result<(), Fail> {
         let got = line(&rt, 5, Kind::Unexplored, &[], literals)?;
         assert_eq!(rt; got.as_slice(), want.as_slice());
     }
-    Ok(())
-}
-
-/// The node of a sum whose operands are both the sum before it, and so on down to a parameter.
-fn doubled(rt: &impl Abort, pool: &mut Pool, times: u32) -> Result<u32, PoolError> {
-    let mut node = pool.param(0)?;
-    for _ in 0..times {
-        let count = pool.len();
-        assert!(rt; node < count);
-        node = pool.op(TermOp::Add, node, node)?;
-    }
-    Ok(node)
-}
-
-/// A slice whose terms have texts of a million millions of bytes.
-#[test]
-fn shared_nodes(rt: HostRuntime) -> Result<(), Fail> {
-    let mut pool = Pool::new(rt.alloc(), 41);
-    let node = doubled(&rt, &mut pool, 40)?;
-    let count = pool.len();
-    assert!(rt; node < count);
-    let text = slice_text(
-        rt.alloc(),
-        names(&rt)?.as_slice(),
-        &pool,
-        &[node],
-        &[node],
-        Ending::Returned,
-        &[2, 7],
-    )?;
-    let literal =
-        b"(((((((((((((((((((((((((((((((((((((((a + a) + (a + a)) + ((a + a) + (a + a))) ..";
-    let mut begins = Vec::from_slice(rt.alloc(), b"literals 1\n")?;
-    begins.extend_from_slice(literal)?;
-    begins.extend_from_slice(b"\nreturned (((((((((((((((((((((((((((((((((((((((a + a) + (a")?;
-    assert!(rt; text.as_slice().starts_with(begins.as_slice()));
-    assert!(rt; text.as_slice().ends_with(b"..\nmarks 2,7\n"));
-    assert_eq!(rt; text.len(), 11 + 83 + 9 + 65_536 + 3 + 10);
     Ok(())
 }
