@@ -1,0 +1,5 @@
+pub mod Fronts
+pub mod Refuting
+pub mod OtherParts
+pub mod Sizes
+pub mod Supporting

@@ -1,0 +1,11 @@
+/// The most distinct terms that are made for one settlement.
+pub const MAX_NODES: u32 = 20_000;
+
+/// The most numbers of a log, the last line of one that refutes not counted.
+pub const MAX_NUMBERS: u32 = 1_000_000;
+
+/// The most lines that a budget may have.
+pub const MAX_LINES: u32 = 50_000;
+
+/// The most bytes of a record.
+pub const MAX_PAYLOAD: u64 = 17_000_000;
