@@ -1,0 +1,7 @@
+pub mod Slots
+pub mod Replays
+pub mod Counting
+pub mod Legality
+pub mod Parents
+pub mod Trees
+pub mod Kept

@@ -1,0 +1,160 @@
+//! The board and its readers.
+ghost use Rattle.std.specs.Prelude.{◌≡◌, ◌≤◌, ◌^◌, length, map, IfOk};
+ghost use Rattle.std.specs.Arc.{arc_value};
+ghost use Rattle.std.specs.Option.{option_copied};
+ghost use Rattle.prv_board.specs.Slots.{live_parts, part_at};
+ghost use Rattle.prv_board.specs.Replays.{AreCaps, unsettled, slots, totals, counts_of};
+
+use crate::counts::{Counts, count_kind};
+use crate::totals::Totals;
+use crate::tree::{Origin, Retired, entry_at};
+use prv_model::{Kind, Pair};
+use prv_part::{Caps, Part, Settlement};
+use prv_pool::Region;
+use sqlite_items::Items;
+use std::alloc::{AllocError, Global};
+use std::marker::Model;
+use std::sync::Arc;
+
+/// What is known of each input of a space: entries, each a region with what is claimed of it.
+///
+/// A board begins with one entry, the whole space, unexplored. A settlement retires the entry that it settles,
+/// and its parts become entries with the next numbers. Whatever is applied, each input of the space lies in
+/// exactly one live entry, and what an entry claims is true of every input that it holds.
+#[derive(Drop)]
+pub struct Board {
+    pub(crate) alloc: Global,
+    pub(crate) pair: Arc<Pair>,
+    pub(crate) caps: Caps,
+    /// What entry 0 says.
+    pub(crate) whole: Part,
+    pub(crate) settlements: Vec<Arc<Settlement>>,
+    /// Where each entry comes from.
+    pub(crate) origins: Vec<Origin>,
+    /// Which settlement retired each entry, if one did.
+    pub(crate) retired: Vec<Option<Retired>>,
+    pub(crate) counts: Counts,
+    pub(crate) totals: Totals,
+    /// Room is kept for a settlement of so many parts.
+    pub(crate) spare: u32,
+}
+
+impl Model for Board {
+    ghost use Rattle.prv_board.specs.Replays.{BoardView, view_code};
+
+    ghost Value = { BoardView };
+
+    ghost coded = { view_code };
+
+    ghost use Rattle.prv_board.specs.Kept.{seen, AreKept};
+
+    ghost view = { seen };
+
+    ghost invariant = { AreKept };
+}
+
+impl Board {
+    /// The board of a pair over a space that nothing was applied to: entry 0 is the space, unexplored.
+    pub fn new(
+        alloc: Global,
+        pair: Arc<Pair>,
+        space: Region,
+        caps: Caps,
+    ) -> Result<Board, AllocError>
+        requires few { length space ≤ 2 }
+        requires caps { AreCaps caps }
+        ensures { IfOk result (λ board. board.replay ≡ unsettled (arc_value pair) space caps) }
+    {
+        let literals = space.parts().roots.len() as u64;
+        let whole = Part {
+            region: space,
+            kind: Kind::Unexplored,
+            marks: Items::from_vec(Vec::new(alloc)),
+        };
+        let mut origins = Vec::new(alloc);
+        origins.push(Origin::Space)?;
+        let mut retired = Vec::new(alloc);
+        retired.push(None)?;
+        Ok(Board {
+            alloc,
+            pair,
+            caps,
+            counts: count_kind(&whole.kind),
+            whole,
+            settlements: Vec::new(alloc),
+            origins,
+            retired,
+            totals: Totals {
+                entries: 1,
+                numbers: 0,
+                literals,
+            },
+            spare: 0,
+        })
+    }
+
+    /// What a live entry says; none exactly where no live entry has the number.
+    pub fn entry(&self, number: u32) -> Option<&Part>
+        ensures { option_copied result ≡ part_at (slots self.now.replay) number }
+    {
+        entry_at(
+            &self.whole,
+            self.settlements.as_slice(),
+            self.origins.as_slice(),
+            self.retired.as_slice(),
+            number,
+        )
+    }
+
+    /// The least number that no entry has had.
+    pub fn next_number(&self) -> u32
+        ensures { result ≡ length (slots self.now.replay) }
+    {
+        self.origins.len() as u32
+    }
+
+    /// The pair that the board is about.
+    pub fn pair(&self) -> &Arc<Pair>
+        ensures { arc_value result.now ≡ self.now.replay.pair }
+    {
+        &self.pair
+    }
+
+    /// The most that the board may hold.
+    pub fn caps(&self) -> Caps
+        ensures value { result ≡ self.now.replay.caps }
+        ensures kept { AreCaps result }
+    {
+        self.caps
+    }
+
+    /// How much the board holds.
+    pub fn totals(&self) -> Totals
+        ensures value { result ≡ totals (self.now.replay) }
+        ensures few_entries { result.entries ≤ 2 ^ 30 }
+        ensures few_numbers { result.numbers ≤ 2 ^ 31 }
+        ensures few_literals { result.literals ≤ 2 ^ 48 }
+    {
+        self.totals
+    }
+
+    /// The allocator that the board takes memory from.
+    pub(crate) fn allocator(&self) -> Global {
+        self.alloc
+    }
+
+    /// The settlements that were applied, in order.
+    pub fn history(&self) -> &[Arc<Settlement>]
+        ensures { map (λ s. arc_value s) result.now ≡ self.now.replay.history }
+    {
+        self.settlements.as_slice()
+    }
+
+    /// How many live entries there are of each kind.
+    pub fn counts(&self) -> Counts
+        ensures value { result ≡ counts_of (live_parts (slots self.now.replay)) }
+        ensures few { length (live_parts (slots self.now.replay)) ≤ 2 ^ 30 }
+    {
+        self.counts
+    }
+}

@@ -1,0 +1,23 @@
+//! What is known of each input of a space: entries, each a region with a claim.
+//!
+//! A settlement retires the entry that it settles, and its parts become entries with the next numbers. Whatever
+//! is applied, each input of the space lies in exactly one live entry, and what an entry claims is true of
+//! every input that it holds.
+#![tactic(auto)]
+
+mod apply;
+mod board;
+mod claim;
+mod counts;
+mod error;
+mod legal;
+mod parent;
+mod refuse;
+mod totals;
+mod tree;
+
+pub use board::Board;
+pub use counts::Counts;
+pub use error::{ApplyError, StrangerWhy};
+pub use parent::Parent;
+pub use totals::Totals;

@@ -1,0 +1,61 @@
+//! Where each entry comes from, and which settlement retired it.
+ghost use Rattle.std.specs.Prelude.{◌≡◌, map, slice_get};
+ghost use Rattle.std.specs.Arc.{arc_value};
+ghost use Rattle.std.specs.Option.{option_copied};
+ghost use Rattle.prv_board.specs.Trees.{part_from, unless_retired};
+
+use prv_part::{Part, Settlement};
+use sqlite_items::at;
+use std::sync::Arc;
+
+/// Where an entry comes from.
+#[derive(Clone, Copy, Debug, PartialEq, Eq)]
+pub enum Origin {
+    /// It is the space, with which a board begins.
+    Space,
+    /// It is a part of a settlement, by the places of both.
+    Made { settlement: u32, part: u32 },
+}
+
+/// The place of the settlement that retired an entry, and the number of that settlement's first part.
+#[derive(Clone, Copy, Debug, PartialEq, Eq)]
+pub struct Retired {
+    pub settlement: u32,
+    pub first: u32,
+}
+
+/// What the entry of a number says, if there is one that isn't retired.
+pub fn entry_at<'a>(
+    whole: &'a Part,
+    settlements: &'a [Arc<Settlement>],
+    origins: &'a [Origin],
+    retired: &'a [Option<Retired>],
+    number: u32,
+) -> Option<&'a Part>
+    ensures { option_copied result ≡ unless_retired whole.now (map (λ s. arc_value s) settlements.now) (slice_get origins.now number) (slice_get retired.now number) }
+{
+    match at(retired, number as usize) {
+        Some(None) => match at(origins, number as usize) {
+            Some(origin) => part_at(whole, settlements, *origin),
+            None => None,
+        },
+        _ => None,
+    }
+}
+
+/// What stands at an origin.
+fn part_at<'a>(
+    whole: &'a Part,
+    settlements: &'a [Arc<Settlement>],
+    origin: Origin,
+) -> Option<&'a Part>
+    ensures { option_copied result ≡ part_from whole.now (map (λ s. arc_value s) settlements.now) origin }
+{
+    match origin {
+        Origin::Space => Some(whole),
+        Origin::Made { settlement, part } => {
+            let made_by = at(settlements, settlement as usize)?;
+            at(made_by.parts(), part as usize)
+        }
+    }
+}
