@@ -2,16 +2,20 @@ ghost use Rattle.std.specs.Prelude.{◌<◌, length};
 
 use crate::expansion::expanded;
 use crate::refusal::Refusal;
-use crate::stages::{chosen_of, pair_of, run_of, trace_of, tree_of, version_of};
+use crate::stages::{chosen_of, pair_of, run_of, terms_of, trace_of, tree_of, version_of};
+use crate::terms::show_term;
 use crate::tokens::{show_bytes, show_skeleton, show_tokens};
 use crate::trees::{show_all, show_ident};
 use prv_dep::Writes;
 use prv_lex::tokens;
 use prv_line::read_words;
+use prv_pool::Pool;
 use std::alloc::{AllocError, Global};
 
 /// What stands around an expression.
 const VALUE: (&str, &str) = ("int main(int a) { return ", "; }");
+/// What stands around an expression over two parameters.
+const TERMS: (&str, &str) = ("int main(int a, int b) { return ", "; }");
 /// What stands around statements.
 const BODY: (&str, &str) = ("int main(int a) {", "}");
 
@@ -32,6 +36,7 @@ pub fn answer(alloc: Global, row: &str) -> Result<String, Refusal> {
         "run" => run_answer(alloc, text),
         "trace" => trace_answer(alloc, text),
         "choice" => choice_answer(alloc, text),
+        "terms" => terms_answer(alloc, text),
         "reach" => reach_answer(alloc, text),
         "words" => words_answer(alloc, text),
         _ => Err(Refusal::Row),
@@ -168,6 +173,22 @@ fn choice_answer(alloc: Global, text: &str) -> Result<String, Refusal> {
     }
     for mark in chosen.marks.as_slice() {
         write!(line, " @{mark}")?;
+    }
+    Ok(line)
+}
+
+/// The terms of an expression's value and of its safety.
+fn terms_answer(alloc: Global, text: &str) -> Result<String, Refusal> {
+    let text = around(alloc, TERMS, text)?;
+    let mut pool = Pool::new(alloc, 100);
+    let symbols = terms_of(alloc, text.as_slice(), &mut pool)?;
+    let mut line = String::new(alloc);
+    for value in symbols.values.as_slice() {
+        show_term(&mut line, &pool, *value)?;
+    }
+    for safe in symbols.safes.as_slice() {
+        line.push_str("; ")?;
+        show_term(&mut line, &pool, *safe)?;
     }
     Ok(line)
 }

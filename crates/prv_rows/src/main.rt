@@ -5,6 +5,7 @@ mod answer;
 mod expansion;
 mod refusal;
 mod stages;
+mod terms;
 mod tokens;
 mod trees;
 

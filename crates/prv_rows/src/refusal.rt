@@ -3,6 +3,7 @@ use prv_line::LineError;
 use prv_marks::PairError;
 use prv_names::NameError;
 use prv_parse::ParseError;
+use prv_pool::PoolError;
 use std::alloc::AllocError;
 use std::num::ParseIntError;
 use thiserror::Error;
@@ -20,6 +21,8 @@ pub enum Refusal {
     Pair(#[from] PairError),
     #[error(transparent)]
     Line(#[from] LineError),
+    #[error(transparent)]
+    Pool(#[from] PoolError),
     #[error(transparent)]
     Number(#[from] ParseIntError),
     #[error("no such row")]

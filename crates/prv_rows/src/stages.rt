@@ -8,8 +8,10 @@ use prv_marks::pair;
 use prv_model::{Input, Outcome, Pair, Program};
 use prv_names::{Version, check};
 use prv_parse::{Tree, parse};
+use prv_pool::Pool;
 use prv_run::Traced;
 use prv_select::{Chosen, select};
+use prv_sym::{Symbols, terms};
 use std::alloc::Global;
 
 pub fn tree_of(alloc: Global, text: &[u8]) -> Result<Tree, Refusal> {
@@ -78,4 +80,11 @@ pub fn chosen_of(alloc: Global, numbers: &str, text: &[u8]) -> Result<Chosen, Re
     let traced = prv_run::trace(alloc, &case.program, &case.input, case.turns)?;
     let deps = Writes::of(alloc, &case.program)?;
     Ok(select(alloc, &case.program, &traced, &deps)?)
+}
+
+/// The terms of what is evaluated in the run of a program of two parameters, on two zeros.
+pub fn terms_of(alloc: Global, text: &[u8], pool: &mut Pool) -> Result<Symbols, Refusal> {
+    let case = case_of(alloc, "0 0 0", text)?;
+    let traced = prv_run::trace(alloc, &case.program, &case.input, case.turns)?;
+    Ok(terms(alloc, &case.program, &traced, pool)?)
 }
