@@ -135,7 +135,7 @@ def others(draw, x, count):
 
 def main():
     count, draw, folder = int(sys.argv[2]), random.Random(int(sys.argv[3])), sys.argv[4]
-    counts = {'slices': 0, 'cut': 0, 'refused': 0, 'inputs': 0, 'wrong': 0}
+    counts = {'slices': 0, 'with conditions': 0, 'cut': 0, 'refused': 0, 'inputs': 0, 'wrong': 0}
     for at in range(count):
         name = os.path.join(folder, f'{at}.mc')
         with open(name, 'w') as file:
@@ -150,6 +150,7 @@ def main():
             continue
         counts['slices'] += 1
         literals, shown = slice_of(lines)
+        counts['with conditions'] += bool(literals)
         met = [y for y in {x, *others(draw, x, 200)} if all(value(t, y) for t in literals)]
         if x not in met:
             counts['wrong'] += 1
