@@ -1,5 +1,5 @@
 -- The literals of a condition, one after another.
-use Rattle.std.proofs.Common.{◌≡◌, ℕ, zero, suc, ◌+◌, ◌*◌, ◌<◌, ◌≤◌, Bool, true, false, List, [], ◌∷◌, ◌++◌, length, map, take, drop, Option, Some, option_map, slice_get, refl, sym, ap, ◌∙◌, subst, arith, fold, append-nil, append_assoc, length-append, add-one}
+use Rattle.std.proofs.Common.{◌≡◌, ℕ, zero, suc, ◌+◌, ◌*◌, ◌<◌, ◌≤◌, false, List, [], ◌∷◌, ◌++◌, length, take, drop, Some, option_map, slice_get, refl, sym, ap, ◌∙◌, subst, arith, fold, append_assoc, length-append}
 use Rattle.std.specs.Prelude.{Result, Ok, Err, ◌↔◌}
 use Rattle.std.specs.List.{All, AllByRecursion}
 use Rattle.std.proofs.lemmas.List.{length-map, take_all}
@@ -8,15 +8,14 @@ use Rattle.std.proofs.lemmas.List.Sums.{fold-append}
 use Rattle.std.proofs.Math.Seq.{drop-append_seam}
 use Rattle.prv_model.specs.Terms.{IsTerm}
 use Rattle.prv_model.specs.declared.term.Term.{Term, out-Term}
-use Rattle.prv_cnf.specs.declared.formula.TheConstants.{MAX_VARS}
 use Rattle.prv_cnf.specs.Formulas.{Formula}
 use Rattle.prv_gate.specs.Circuits.{Circuit, blank}
 use Rattle.prv_gate.specs.declared.bit.Bit.{Bit}
 use Rattle.prv_arith.specs.declared.words.Word.{Word}
-use Rattle.prv_pool.specs.Tables.{Table, IsTable, term_at, add_term, add_terms}
+use Rattle.prv_pool.specs.Tables.{Table, IsTable, term_at, add_term}
 use Rattle.prv_blast.specs.declared.error.BlastError.{BlastError}
 use Rattle.prv_blast.specs.declared.error.BlastError.TheVariants.{Clauses}
-use Rattle.prv_blast.specs.Subterms.{node_params, costs, cost, subterms, param_count, most_params}
+use Rattle.prv_blast.specs.Subterms.{node_params, costs, cost, subterms, param_count}
 use Rattle.prv_blast.specs.Encodings.{Encoding, encoded, missing, with_literal, start}
 use Rattle.prv_blast.specs.Formulas.{encoding, formula, StandsFor, IsWithinCost}
 use Rattle.prv_blast.specs.Orders.{AreWithin, terms_at}
@@ -24,7 +23,7 @@ use Rattle.prv_blast.specs.Encoders.{encoding_at, IsPlain, CanEncode}
 use Rattle.prv_blast.proofs.Encoders.{within-get, zip-none}
 use Rattle.prv_blast.proofs.Growing.{all-recursive, add-grown, term-growth, all-first}
 use Rattle.prv_blast.proofs.Meaning.{Encodes, cost-more, costs-append, subterms-append}
-use Rattle.prv_blast.proofs.Standing.{few-params, subterms-known, plain-subterms, most-over, starts, encodes-all, formula-stands, formula-within}
+use Rattle.prv_blast.proofs.Standing.{few-params, plain-subterms, most-over, starts, encodes-all, formula-stands, formula-within}
 
 -- a list in front of an element, the element, and the rest
 pub split-at : {X : Type 0} (xs : List X) (i : ℕ) (x : X) → slice_get xs i ≡ Some x → xs ≡ take i xs ++ x ∷ drop (suc i) xs

@@ -1,13 +1,12 @@
 -- What a list of terms grows by where a term and its subterms are added.
-use Rattle.std.proofs.Common.{◌≡◌, ◌≢◌, ℕ, zero, suc, ◌+◌, ◌<◌, ◌≤◌, Bool, true, false, ◌||◌, List, [], ◌∷◌, ◌++◌, length, ℤ, refl, sym, ap, ◌∙◌, subst, arith, append_assoc, append-nil, get_or, fold, if◌then◌else◌}
+use Rattle.std.proofs.Common.{◌≡◌, ℕ, zero, suc, ◌+◌, ◌<◌, Bool, true, false, List, [], ◌∷◌, ◌++◌, length, refl, sym, ap, ◌∙◌, subst, arith, append_assoc, append-nil, get_or, if◌then◌else◌}
 use Rattle.std.specs.List.{All, AllByRecursion}
-use Rattle.prv_model.specs.declared.op.TermOp.{TermOp}
 use Rattle.prv_model.specs.declared.term.Term.{Term, out-Term}
 use Rattle.prv_model.specs.declared.term.Term.TheVariants.{Param, Op, Pick, Num}
 use Rattle.prv_model.specs.declared.term.Term.TheOpen.{Term-F}
 use Rattle.prv_pool.specs.Tables.{node_operands, has_term, add_term, add_terms}
 use Rattle.prv_pool.proofs.Shapes.{out-Param, out-Op, out-Pick, out-Num, add-Param, add-Op, add-Pick, add-Num}
-use Rattle.prv_pool.proofs.TableLemmas.{by-term, has-append, has-more, has-at}
+use Rattle.prv_pool.proofs.TableLemmas.{by-term, has-more, has-at}
 use Rattle.prv_pool.proofs.NodeLemmas.{get-end}
 
 -- ---- terms by their operands

@@ -1,5 +1,5 @@
 -- What the formula of a condition means, and how large it is.
-use Rattle.std.proofs.Common.{◌≡◌, ℕ, zero, suc, ◌+◌, ◌*◌, ◌<◌, ◌≤◌, ◌↔◌, Bool, true, false, ◌&&◌, ◌||◌, not, List, [], ◌∷◌, ◌++◌, length, map, drop, ℤ, pos, refl, sym, ap, ◌∙◌, subst, arith, fold, append-nil, append_assoc, length-append, if◌then◌else◌}
+use Rattle.std.proofs.Common.{◌≡◌, ℕ, zero, suc, ◌+◌, ◌*◌, ◌<◌, ◌≤◌, Bool, true, false, ◌&&◌, ◌||◌, not, List, [], ◌∷◌, ◌++◌, length, map, drop, ℤ, refl, sym, ap, ◌∙◌, subst, arith, fold, length-append, if◌then◌else◌}
 use Rattle.std.specs.List.{AllByRecursion, list_any, range_with_len}
 use Rattle.std.proofs.lemmas.List.{length-map}
 use Rattle.std.proofs.lemmas.List.Sums.{fold-append}
@@ -8,26 +8,25 @@ use Rattle.prv_model.specs.Words.{is_zero}
 use Rattle.prv_model.specs.Terms.{term_value, holds}
 use Rattle.prv_model.proofs.TermLemmas.{holds-append}
 use Rattle.prv_model.specs.declared.term.Term.{Term, out-Term}
-use Rattle.prv_cnf.specs.declared.formula.TheConstants.{MAX_VARS}
 use Rattle.prv_cnf.specs.Models.{IsModel}
 use Rattle.prv_bits.specs.Numbers.{word, any, any_from}
 use Rattle.prv_bits.proofs.WordLaws.{is_zero-word}
 use Rattle.prv_gate.specs.Bits.{bit_value}
-use Rattle.prv_gate.specs.Circuits.{Circuit, blank, IsCircuit}
+use Rattle.prv_gate.specs.Circuits.{IsCircuit}
 use Rattle.prv_gate.specs.Growth.{Agrees}
-use Rattle.prv_gate.specs.Assertions.{asserted, Asserts}
+use Rattle.prv_gate.specs.Assertions.{asserted}
 use Rattle.prv_gate.specs.declared.bit.Bit.{Bit}
-use Rattle.prv_gate.proofs.Composing.{agrees-refl, agrees-fewer, agrees-trans}
+use Rattle.prv_gate.proofs.Composing.{agrees-fewer, agrees-trans}
 use Rattle.prv_gate.proofs.Asserting.{asserted-asserts}
-use Rattle.prv_arith.specs.Lists.{AllBits, values}
+use Rattle.prv_arith.specs.Lists.{values}
 use Rattle.prv_arith.specs.Words.{word_value}
 use Rattle.prv_pool.specs.Tables.{has_term, add_term, add_terms}
 use Rattle.prv_blast.specs.Inputs.{variables, input_at}
-use Rattle.prv_blast.specs.Subterms.{node_cost, costs, cost, subterms}
-use Rattle.prv_blast.specs.Encodings.{Encoding, encoded, term_bits, with_term, with_terms, with_assertion, with_literal, missing, start}
-use Rattle.prv_blast.specs.Encoders.{IsWordOf, AreWords, IsPlain}
-use Rattle.prv_blast.proofs.Growing.{Growth, IsClosedOver, term-growth, add-grown, all-later}
-use Rattle.prv_blast.proofs.Words.{AddsTerms, words-kept, word-found, terms-add}
+use Rattle.prv_blast.specs.Subterms.{costs, cost, subterms}
+use Rattle.prv_blast.specs.Encodings.{Encoding, encoded, term_bits, with_term, with_terms, with_assertion, with_literal, missing}
+use Rattle.prv_blast.specs.Encoders.{AreWords, IsPlain}
+use Rattle.prv_blast.proofs.Growing.{term-growth, add-grown, all-later}
+use Rattle.prv_blast.proofs.Words.{words-kept, word-found, terms-add}
 
 -- ---- costs
 

@@ -1,16 +1,15 @@
 -- Nodes in the order in which they are met, and walks from node to operand.
-use Rattle.std.proofs.Common.{◌≡◌, inl, inr, ℕ, zero, suc, ◌+◌, ◌-◌, ◌*◌, ◌<◌, ◌≤◌, nat_eq, Bool, true, false, ◌||◌, List, [], ◌∷◌, ◌++◌, length, map, Option, Some, None, slice_get, take, unwrap_or, refl, sym, ap, ◌∙◌, subst, arith, append_assoc, length-append, if◌then◌else◌}
-use Rattle.std.specs.List.{AllByRecursion, IsDistinct, list_any}
+use Rattle.std.proofs.Common.{◌≡◌, inl, inr, ℕ, suc, ◌+◌, ◌-◌, ◌*◌, ◌<◌, ◌≤◌, nat_eq, Bool, true, false, ◌||◌, List, [], ◌∷◌, ◌++◌, length, map, Some, None, slice_get, take, refl, sym, ap, ◌∙◌, subst, arith, length-append, if◌then◌else◌}
+use Rattle.std.specs.List.{AllByRecursion, IsDistinct}
 use Rattle.std.specs.Option.{option_or}
 use Rattle.std.proofs.lemmas.Bool.{eqb-true, eq-eqb}
 use Rattle.std.proofs.lemmas.Bool.Decides.{eqb_tells}
-use Rattle.std.proofs.lemmas.List.{length-map, map-append}
+use Rattle.std.proofs.lemmas.List.{map-append}
 use Rattle.std.proofs.Math.Seq.{take-append_seam}
 use Rattle.std.proofs.lemmas.Map.Steps.{length-le_from_distinct_below}
 use Rattle.indexmap.specs.IndexSet.{insert_key}
 use Rattle.prv_model.specs.TermOrder.{same_term}
-use Rattle.prv_model.specs.declared.term.Term.{Term, out-Term}
-use Rattle.prv_model.specs.declared.term.Term.TheOpen.{Term-F}
+use Rattle.prv_model.specs.declared.term.Term.{Term}
 use Rattle.prv_pool.specs.Tables.{Table, IsTable, node_operands, term_at, has_term, add_term}
 use Rattle.prv_pool.specs.Nodes.{node_term, AreBelow}
 use Rattle.prv_pool.specs.declared.node.Node.{Node}
@@ -18,7 +17,7 @@ use Rattle.prv_pool.specs.declared.node.Node.TheVariants as node
 use Rattle.prv_pool.proofs.Shapes.{out-Param, out-Op, out-Pick, out-Num}
 use Rattle.prv_pool.proofs.TableLemmas.{same-itself, same-not}
 use Rattle.prv_pool.proofs.NodeLemmas.{term_at-some}
-use Rattle.prv_blast.specs.Orders.{AreWithin, IsWalk, IsDescent, terms_at, has_node, operands, unmet, first_unmet, climbed, walk_left}
+use Rattle.prv_blast.specs.Orders.{AreWithin, IsWalk, IsDescent, terms_at, has_node, operands, first_unmet, climbed, walk_left}
 use Rattle.prv_blast.proofs.Growing.{operands_of, add-old}
 use Rattle.prv_blast.proofs.Climbing.{size, operands-smaller, operand-first, add-last}
 

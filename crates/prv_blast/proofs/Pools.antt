@@ -1,5 +1,5 @@
 -- Pools whose terms are over 8 parameters, as the tests make them.
-use Rattle.std.proofs.Common.{◌≡◌, ℕ, zero, suc, ◌<◌, ◌≤◌, Bool, true, List, [], ◌∷◌, ◌++◌, length, ℤ, Result, Ok, Err, IfOk, OnOk, slice_get, Some, refl, sym, ap, ◌∙◌, subst, arith, length-append}
+use Rattle.std.proofs.Common.{◌≡◌, ℕ, zero, suc, ◌<◌, ◌≤◌, Bool, true, List, [], ◌∷◌, ◌++◌, length, ℤ, Result, Ok, Err, IfOk, OnOk, sym, ap, ◌∙◌, subst, arith, length-append}
 use Rattle.std.specs.List.{AllByRecursion}
 use Rattle.prv_model.specs.Words.{is_word}
 use Rattle.prv_model.specs.Terms.{IsTerm, node_is_term}

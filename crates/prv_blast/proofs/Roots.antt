@@ -1,5 +1,5 @@
 -- The words of one more root are those of the definition.
-use Rattle.std.proofs.Common.{◌≡◌, ℕ, zero, suc, ◌+◌, ◌*◌, ◌<◌, ◌≤◌, min, nat_eq, nat_lt, Bool, true, false, List, [], ◌∷◌, ◌++◌, length, map, zip, drop, Option, Some, None, option_map, cond, position, get_or, slice_get, unwrap_or, refl, sym, ap, ap₂, ◌∙◌, subst, arith, fold, append_assoc, append-nil, length-append, if◌then◌else◌}
+use Rattle.std.proofs.Common.{◌≡◌, ℕ, ◌+◌, ◌<◌, ◌≤◌, nat_eq, nat_lt, Bool, true, false, List, [], ◌∷◌, ◌++◌, length, map, zip, drop, Option, Some, None, option_map, cond, position, get_or, slice_get, unwrap_or, refl, sym, ap, ap₂, ◌∙◌, subst, arith, fold, append_assoc, append-nil, length-append, if◌then◌else◌}
 use Rattle.std.specs.List.{AllByRecursion, IsDistinct, position_or_len}
 use Rattle.std.proofs.lemmas.Bool.{ltb-true, ltb-false, lt-ltb, eq-eqb, eqb-true}
 use Rattle.std.proofs.lemmas.Option.{get_or_from_slice_get, slice_get-map}
@@ -9,10 +9,8 @@ use Rattle.std.proofs.lemmas.List.Quantifiers.{position-Some}
 use Rattle.std.proofs.lemmas.Map.Keys.{apart_from_distinct}
 use Rattle.std.proofs.lemmas.Slice.Zip.{length-zip}
 use Rattle.std.proofs.Math.Seq.{drop-append_seam}
-use Rattle.prv_model.specs.TermOrder.{same_term}
 use Rattle.prv_model.specs.declared.term.Term.{Term, map-Term, out-Term}
-use Rattle.prv_cnf.specs.declared.formula.TheConstants.{MAX_VARS}
-use Rattle.prv_gate.specs.Circuits.{Circuit, Run}
+use Rattle.prv_gate.specs.Circuits.{Circuit}
 use Rattle.prv_gate.specs.Assertions.{asserted}
 use Rattle.prv_gate.specs.declared.bit.Bit.{Bit}
 use Rattle.prv_arith.specs.Lists.{AllBits}
@@ -26,7 +24,7 @@ use Rattle.prv_pool.proofs.TableLemmas.{has-found}
 use Rattle.prv_blast.specs.Subterms.{node_cost, costs}
 use Rattle.prv_blast.specs.Encodings.{Encoding, encoded, missing, term_bits, node_bits, with_term, with_terms, with_assertion, with_literal}
 use Rattle.prv_blast.specs.Orders.{AreWithin, terms_at, operands}
-use Rattle.prv_blast.specs.Encoders.{encoding_at, HasWord, bits_at, node_run, run_cost, CanRun, IsWordOf, AreWords, IsPlain, CanEncode}
+use Rattle.prv_blast.specs.Encoders.{encoding_at, HasWord, bits_at, node_run, run_cost, CanRun, IsPlain, CanEncode}
 use Rattle.prv_blast.proofs.Growing.{operands_of, Growth, IsClosedOver, closed-first, closed-later, term-growth, add-old, add-new, all-first, all-later}
 use Rattle.prv_blast.proofs.Words.{AddsTerms, word-found, terms-add}
 use Rattle.prv_blast.proofs.Meaning.{costs-append}

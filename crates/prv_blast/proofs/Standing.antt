@@ -1,5 +1,5 @@
 -- The formula of a condition stands for it, and is no larger than the condition costs.
-use Rattle.std.proofs.Common.{◌≡◌, ℕ, zero, suc, ◌+◌, ◌-◌, ◌*◌, ◌/◌, ◌%◌, ◌<◌, ◌≤◌, ◌↔◌, max, Bool, true, false, ◌&&◌, ◌||◌, List, [], ◌∷◌, ◌++◌, length, map, ℤ, pos, get_or, Option, Some, None, refl, sym, ap, ◌∙◌, subst, arith, fold, append-nil, append_assoc, add-zero}
+use Rattle.std.proofs.Common.{◌≡◌, ℕ, zero, suc, ◌+◌, ◌-◌, ◌*◌, ◌/◌, ◌%◌, ◌<◌, ◌≤◌, Bool, true, false, ◌&&◌, ◌||◌, List, [], ◌∷◌, ◌++◌, length, map, ℤ, pos, get_or, refl, sym, ap, ◌∙◌, subst, arith, fold, append-nil, append_assoc, add-zero}
 use Rattle.std.specs.List.{AllByRecursion, range_with_len}
 use Rattle.std.proofs.lemmas.Bool.{ltb-true, lt-ltb}
 use Rattle.std.specs.Int.{w32, cast_unsigned}
@@ -7,18 +7,16 @@ use Rattle.prv_model.specs.Words.{IsWord}
 use Rattle.prv_model.specs.Boards.{IsInput}
 use Rattle.prv_model.specs.Terms.{IsTerm, node_is_term, holds}
 use Rattle.prv_model.proofs.WordLaws.{tested-word, word-tested}
-use Rattle.prv_model.specs.declared.op.TermOp.{TermOp}
 use Rattle.prv_model.specs.declared.term.Term.{Term, out-Term, roll-Term, roll-out-Term}
-use Rattle.prv_model.specs.declared.term.Term.TheVariants.{Param, Op, Pick, Num, rolls-Param, rolls-Op, rolls-Pick, rolls-Num}
+use Rattle.prv_model.specs.declared.term.Term.TheVariants.{Param, Op, Pick, Num, rolls-Param, rolls-Num}
 use Rattle.prv_model.specs.declared.term.Term.TheOpen.{Term-F}
 use Rattle.prv_model.specs.declared.term.Term.TheFolds.{fold-Term, fold-roll-Term}
-use Rattle.prv_cnf.specs.Models.{IsModel}
 use Rattle.prv_bits.specs.Numbers.{word, bits_of}
 use Rattle.prv_bits.proofs.WordLaws.{word-bits_of}
 use Rattle.prv_bits.proofs.NumberLaws.{length-digits}
-use Rattle.prv_gate.specs.Circuits.{Circuit, blank, IsCircuit}
+use Rattle.prv_gate.specs.Circuits.{blank, IsCircuit}
 use Rattle.prv_gate.proofs.Composing.{agrees-refl}
-use Rattle.prv_pool.specs.Tables.{node_operands, has_term, add_term, add_terms}
+use Rattle.prv_pool.specs.Tables.{node_operands, has_term}
 use Rattle.prv_pool.proofs.TableLemmas.{has-more}
 use Rattle.prv_model.specs.TermOrder.{same_term}
 use Rattle.prv_model.proofs.OrderLemmas.{same_term-same}

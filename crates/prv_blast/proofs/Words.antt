@@ -1,17 +1,16 @@
 -- What the bits of terms are worth.
-use Rattle.std.proofs.Common.{◌≡◌, ℕ, zero, suc, ◌+◌, ◌*◌, ◌<◌, ◌≤◌, Bool, true, false, not, ◌||◌, cond, List, [], ◌∷◌, ◌++◌, length, map, ℤ, pos, Option, Some, None, slice_get, get_or, unwrap_or, refl, sym, ap, ap₂, ◌∙◌, subst, arith, fold, append-nil, append_assoc, if◌then◌else◌}
+use Rattle.std.proofs.Common.{◌≡◌, ℕ, zero, suc, ◌+◌, ◌*◌, ◌<◌, ◌≤◌, Bool, true, false, ◌||◌, cond, List, [], ◌∷◌, ◌++◌, length, map, ℤ, pos, Option, Some, slice_get, get_or, unwrap_or, refl, sym, ap, ap₂, ◌∙◌, subst, arith, fold, append-nil, append_assoc, if◌then◌else◌}
 use Rattle.std.specs.List.{AllByRecursion, range_with_len}
 use Rattle.std.specs.Int.{w32, cast_unsigned}
 use Rattle.std.specs.Map.{lookup}
 use Rattle.std.proofs.lemmas.List.{length-map, map-append}
 use Rattle.std.proofs.lemmas.List.FromFn.{get_or-map-range_with_len, length-map-range_with_len}
 use Rattle.std.proofs.lemmas.Option.{slice_get-get_or}
-use Rattle.prv_model.specs.Words.{IsWord, is_zero}
+use Rattle.prv_model.specs.Words.{is_zero}
 use Rattle.prv_model.specs.Terms.{term_value, total}
 use Rattle.prv_model.specs.TermOrder.{same_term}
 use Rattle.prv_model.proofs.OrderLemmas.{same_term-same}
 use Rattle.prv_model.proofs.TermLemmas.{term_value-Param, term_value-Num, term_value-Op, term_value-Pick}
-use Rattle.prv_model.specs.declared.op.TermOp.{TermOp}
 use Rattle.prv_model.specs.declared.term.Term.{Term, map-Term, out-Term, roll-Term, roll-out-Term}
 use Rattle.prv_model.specs.declared.term.Term.TheVariants.{Param, Op, Pick, Num, rolls-Param, rolls-Op, rolls-Pick, rolls-Num}
 use Rattle.prv_model.specs.declared.term.Term.TheOpen.{Term-F}
@@ -20,7 +19,7 @@ use Rattle.prv_cnf.specs.Models.{IsModel}
 use Rattle.prv_bits.specs.Numbers.{word, bits_of}
 use Rattle.prv_bits.proofs.WordLaws.{word-bits_of}
 use Rattle.prv_bits.proofs.NumberLaws.{length-digits}
-use Rattle.prv_gate.specs.Bits.{IsBit, bit_value, constant}
+use Rattle.prv_gate.specs.Bits.{bit_value, constant}
 use Rattle.prv_gate.specs.Circuits.{Circuit, Run, IsCircuit}
 use Rattle.prv_gate.specs.Growth.{Grows}
 use Rattle.prv_gate.specs.declared.bit.Bit.{Bit}
@@ -32,7 +31,7 @@ use Rattle.prv_arith.specs.Words.{word_value, op_bits, pick_bits}
 use Rattle.prv_arith.proofs.ListLaws.{bits-more}
 use Rattle.prv_arith.proofs.OperatorLaws.{op_bits-gives, length-op_bits, pick_bits-gives, length-pick_bits}
 use Rattle.prv_pool.specs.Tables.{node_operands, has_term}
-use Rattle.prv_blast.specs.Inputs.{variables, param_bits, input_at}
+use Rattle.prv_blast.specs.Inputs.{variables, input_at}
 use Rattle.prv_blast.specs.Subterms.{node_cost, costs}
 use Rattle.prv_blast.specs.Encodings.{Encoding, encoded, term_bits, node_bits, with_term}
 use Rattle.prv_blast.specs.Encoders.{IsWordOf, AreWords, IsPlain}

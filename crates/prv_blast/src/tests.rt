@@ -83,6 +83,15 @@ fn an_equality_holds_on_the_bits_of_its_number(rt: HostRuntime) -> Result<(), Fa
 }
 
 #[test]
+fn products_up_to_the_limit_have_formulas(rt: HostRuntime) -> Result<(), Fail> {
+    let mut pool = Pool::new(rt.alloc(), 1000);
+    let root = power(&mut pool, 149)?;
+    let blasted = formula_of(rt.alloc(), &pool, root).expect(&rt, "a formula");
+    assert_eq!(rt; blasted.params, 1);
+    Ok(())
+}
+
+#[test]
 fn products_past_the_limit_are_refused(rt: HostRuntime) -> Result<(), Fail> {
     let mut pool = Pool::new(rt.alloc(), 1000);
     let root = power(&mut pool, 150)?;

@@ -19,7 +19,7 @@ use Rattle.prv_parse.proofs.CompleteCounts.{counted-append, operators-append, un
 -- a text begins inside so many constructs
 abbrev pub Starts : ℕ → List Laid → Type 0
 Starts d [] = ⊥
-Starts d (t ∷ text) = t.inside ≡ d
+Starts d (t ∷ text) = t.depth ≡ d
 
 -- a text begins where its front does
 pub starts-append : (d : ℕ) (a b : List Laid) → Starts d a → Starts d (a ++ b)
@@ -34,7 +34,7 @@ shallow false many within d h e = h refl
 -- a text within the limits is inside no more constructs than there may be
 pub starts-within : (d : ℕ) (a : List Laid) → Starts d a → is_within a ≡ true → d ≤ 100
 starts-within d [] s within = absurd s
-starts-within d (t ∷ a) s within = shallow (is_deep t) (is_many t) (is_within a) d (λ e. omega (arith, s, ltb-false 100 t.inside e)) within
+starts-within d (t ∷ a) s within = shallow (is_deep t) (is_many t) (is_within a) d (λ e. omega (arith, s, ltb-false 100 t.depth e)) within
 
 -- no operator of the first precedences stands at the front
 abbrev pub NoOperator : ℕ → List Token → Type 0

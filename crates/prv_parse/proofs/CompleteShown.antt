@@ -74,21 +74,21 @@ pub past : {A : Type 0} (t : Laid) (text : List Laid) (x out : Out A) (rest : Li
 past t text x out rest calm few same = shown-calm (is_deep t) (is_many t) (tokens_of (t ∷ text) ++ rest) x (shown text out rest) calm few same
 
 -- a token inside no more constructs than there may be
-pub calm : (d room : ℕ) (t : Laid) → t.inside ≡ d → d + suc room ≡ 101 → is_deep t ≡ false
-calm d room t is within = le-ltb 100 t.inside (omega arith)
+pub calm : (d room : ℕ) (t : Laid) → t.depth ≡ d → d + suc room ≡ 101 → is_deep t ≡ false
+calm d room t is within = le-ltb 100 t.depth (omega arith)
 
 -- a token inside one construct too many
-pub too_far : (t : Laid) → t.inside ≡ 101 → is_deep t ≡ true
-too_far t is = lt-ltb 100 t.inside (omega arith)
+pub too_far : (t : Laid) → t.depth ≡ 101 → is_deep t ≡ true
+too_far t is = lt-ltb 100 t.depth (omega arith)
 
 -- a token that is no operator is none too many
 pub no_more : (t : Laid) → is_operator t.token.tok ≡ false → is_many t ≡ false
 no_more t no_operator = ap (λ b. b && nat_le 256 t.before) no_operator
 
 -- a token that is no operator, inside no more constructs than there may be
-pub past_plain : {A : Type 0} (t : Laid) (text : List Laid) (x out : Out A) (rest : List Token) → t.inside ≤ 100 → is_operator t.token.tok ≡ false
+pub past_plain : {A : Type 0} (t : Laid) (text : List Laid) (x out : Out A) (rest : List Token) → t.depth ≤ 100 → is_operator t.token.tok ≡ false
     → x ≡ shown text out rest → x ≡ shown (t ∷ text) out rest
-past_plain t text x out rest within none same = past t text x out rest (le-ltb 100 t.inside within) (no_more t none) same
+past_plain t text x out rest within none same = past t text x out rest (le-ltb 100 t.depth within) (no_more t none) same
 
 -- an operator stops where it is one too many
 operates_at : {A : Type 0} (deep many full : Bool) (r : List Token) (x y : Out A) → deep ≡ false → many ≡ full → (full ≡ false → x ≡ y)

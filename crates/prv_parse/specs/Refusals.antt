@@ -11,7 +11,7 @@ use Rattle.prv_parse.specs.declared.tree.StmtTree.{StmtTree}
 
 -- a token inside more open constructs than the limit
 abbrev pub is_deep : Laid → Bool
-is_deep t = nat_lt MAX_OPEN t.inside
+is_deep t = nat_lt MAX_OPEN t.depth
 
 -- the 257th operator of its full expression, or a later one
 abbrev pub is_many : Laid → Bool

@@ -7,12 +7,12 @@ use Rattle.prv_parse.specs.Operators.{is_operator}
 -- a token, how many constructs are open around it, and how many operators of its full expression stand before it
 pub record Laid : Type 0 where
   pub token : Token
-  pub inside : ℕ
+  pub depth : ℕ
   pub before : ℕ
 
 -- a token laid at a place, inside so many constructs and behind so many operators
 abbrev pub lay : Tok → ℕ → ℕ → ℕ → Laid
-lay tok place inside before = record { token = record { tok = tok; place = place }; inside = inside; before = before }
+lay tok place depth before = record { token = record { tok = tok; place = place }; depth = depth; before = before }
 
 -- the tokens of a text
 abbrev pub tokens_of : List Laid → List Token

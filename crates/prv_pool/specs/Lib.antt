@@ -4,5 +4,6 @@ pub mod Nodes
 pub mod Folds
 pub mod Steps
 pub mod Values
+pub mod Regions
 pub mod Numbers
 pub mod Copies

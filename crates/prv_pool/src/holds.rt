@@ -8,7 +8,7 @@ ghost use Rattle.prv_pool.specs.Values.{node_value as node_value_of, value_at as
 
 use crate::node::Node;
 use crate::pool::Pool;
-use crate::region::Cond;
+use crate::region::{Cond, MAX_REGION_NODES, Region};
 use prv_model::{Input, total};
 use sqlite_items::at;
 use std::alloc::{AllocError, Global};
@@ -40,6 +40,26 @@ impl Scratch {
             values: Vec::new(alloc),
         }
     }
+
+    /// Makes room for the values of any region's nodes. Where memory is short, the room stays as it was.
+    pub fn reserve_for_regions(&mut self) -> Result<(), AllocError>
+        ensures reserved { OnOk result (MAX_REGION_NODES ≤ self.new) }
+        ensures kept { self.old ≤ self.new }
+    {
+        self.reserve(MAX_REGION_NODES)
+    }
+
+    /// Makes room for so many values. Where memory is short, the room stays as it was.
+    fn reserve(&mut self, count: u32) -> Result<(), AllocError>
+        ensures reserved { OnOk result (count ≤ self.new) }
+        ensures kept { self.old ≤ self.new }
+    {
+        let count = count as usize;
+        if self.values.len() < count {
+            self.values.resize(count, 0)?;
+        }
+        Ok(())
+    }
 }
 
 impl Pool {
@@ -48,11 +68,7 @@ impl Pool {
         ensures reserved { OnOk result (length self.now.terms ≤ scratch.new) }
         ensures kept { scratch.old ≤ scratch.new }
     {
-        let count = self.len() as usize;
-        if scratch.values.len() < count {
-            scratch.values.resize(count, 0)?;
-        }
-        Ok(())
+        scratch.reserve(self.len())
     }
 
     /// Whether each node of the condition is nonzero on the input: whether its region holds the input.
@@ -65,7 +81,16 @@ impl Pool {
         ensures value { result ≡ holds_of (map (term_at self.now.terms) cond.now) input.now }
         ensures room { scratch.new ≡ scratch.old }
     {
-        let roots = cond.roots();
+        self.are_nonzero_at(cond.roots(), input, scratch)
+    }
+
+    /// Whether each of some nodes is nonzero on the input, by one pass over the nodes.
+    fn are_nonzero_at(&self, roots: &[u32], input: &Input, scratch: &mut Scratch) -> bool
+        requires roots { All (λ n. n < length self.now.terms) roots.now }
+        requires reserved { length self.now.terms ≤ scratch.old }
+        ensures value { result ≡ holds_of (map (term_at self.now.terms) roots.now) input.now }
+        ensures room { scratch.new ≡ scratch.old }
+    {
         let count = self.end_of(roots);
         evaluate(self, count, input.as_slice(), &mut scratch.values);
         are_nonzero(roots, scratch.values.as_slice())
@@ -86,6 +111,18 @@ impl Pool {
             }
         }
         end
+    }
+}
+
+impl Region {
+    /// Whether the region holds an input, by one pass over the nodes of its pool. It takes no memory.
+    pub fn holds(&self, input: &Input, scratch: &mut Scratch) -> bool
+        requires reserved { MAX_REGION_NODES ≤ scratch.old }
+        ensures value { result ≡ holds_of self.now input.now }
+        ensures room { scratch.new ≡ scratch.old }
+    {
+        let parts = self.parts();
+        parts.pool.are_nonzero_at(parts.roots, input, scratch)
     }
 }
 

@@ -29,5 +29,5 @@ pub use laws::{
 };
 pub use node::Node;
 pub use pool::Pool;
-pub use region::{Cond, Parts, Region};
+pub use region::{Cond, MAX_REGION_NODES, Parts, Region};
 pub use same::same_region;

@@ -1,4 +1,4 @@
-ghost use Rattle.std.specs.Prelude.{◌≡◌, ℕ, ◌<◌, List, length, map, All, IfOk};
+ghost use Rattle.std.specs.Prelude.{◌≡◌, ℕ, ◌<◌, ◌≤◌, List, length, map, All, IfOk};
 ghost use Rattle.std.specs.Arc.{arc_value};
 ghost use Rattle.prv_pool.specs.Tables.{Table, AreAt, term_at};
 
@@ -6,6 +6,9 @@ use crate::pool::Pool;
 use std::alloc::AllocError;
 use std::marker::Model;
 use std::sync::Arc;
+
+/// The most nodes of a region's pool.
+pub const MAX_REGION_NODES: u32 = 25_000;
 
 /// A condition: nodes of a pool, each of which is to be nonzero. It is shared, not copied.
 #[derive(Drop)]
@@ -50,7 +53,7 @@ impl Cond {
 }
 
 /// A region: terms of a pool, all of which are nonzero on the inputs that it holds. It is seen as the
-/// list of the terms.
+/// list of the terms. Its pool has at most [`MAX_REGION_NODES`] nodes.
 #[derive(Drop)]
 pub struct Region {
     pool: Arc<Pool>,
@@ -63,6 +66,7 @@ impl Model for Region {
     ghost use Rattle.std.specs.Arc.{arc_value};
     ghost use Rattle.prv_model.specs.declared.term.Term.{Term};
     ghost use Rattle.prv_pool.specs.Tables.{term_at, term_code};
+    ghost use Rattle.prv_pool.specs.Regions.{IsRegion};
 
     ghost Value = { List Term };
 
@@ -70,7 +74,7 @@ impl Model for Region {
 
     ghost view = { λ r. map (term_at (arc_value r.pool).terms) r.cond };
 
-    ghost invariant = { λ r. All (λ n. n < length (arc_value r.pool).terms) r.cond };
+    ghost invariant = { λ r. IsRegion (arc_value r.pool).terms r.cond };
 }
 
 /// A region's pool, and the numbers of its terms in it.
@@ -83,7 +87,8 @@ pub struct Parts<'a> {
 impl Region {
     /// The region of a condition on a pool.
     pub fn new(pool: Arc<Pool>, cond: Cond) -> Region
-        requires { All (λ n. n < length (arc_value pool).terms) cond }
+        requires within { All (λ n. n < length (arc_value pool).terms) cond }
+        requires few { length (arc_value pool).terms ≤ MAX_REGION_NODES }
         ensures { result ≡ map (term_at (arc_value pool).terms) cond }
     {
         Region { pool, cond }
@@ -109,6 +114,7 @@ impl Region {
     pub fn parts(&self) -> Parts<'_>
         ensures value { self.now ≡ map (term_at result.pool.now.terms) result.roots.now }
         ensures within { All (λ n. n < length result.pool.now.terms) result.roots.now }
+        ensures few { length result.pool.now.terms ≤ MAX_REGION_NODES }
     {
         Parts {
             pool: &self.pool,

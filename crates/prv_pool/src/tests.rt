@@ -1,6 +1,6 @@
 ghost use Rattle.std.specs.Prelude.{◌<◌, length, All, IfOk};
 
-use crate::{Cond, Node, Pool, PoolError, Region, Scratch, same_region};
+use crate::{Cond, MAX_REGION_NODES, Node, Pool, PoolError, Region, Scratch, same_region};
 use prv_model::{Input, TermOp};
 use std::process::Abort;
 use std::sync::Arc;
@@ -200,28 +200,38 @@ fn less_than_five(rt: &impl Abort, pool: &mut Pool, number_first: bool) -> Resul
 fn below_five(rt: &(impl AllocGlobal + Abort), number_first: bool) -> Result<Region, Fail> {
     let mut pool = Pool::new(rt.alloc(), 100);
     let less = less_than_five(rt, &mut pool, number_first)?;
+    assert!(rt; pool.len() <= MAX_REGION_NODES);
     let roots = Arc::new(rt.alloc(), vec![in rt.alloc(); less]?)?;
     Ok(Region::new(Arc::new(rt.alloc(), pool)?, Cond::new(roots)))
 }
 
-/// Regions are one by their terms, not their numbers.
+/// Regions are one by their terms, not their numbers, and hold the same: `a < 5` holds 4 and not 5.
 #[test]
 fn regions_are_lists_of_terms(rt: HostRuntime) -> Result<(), Fail> {
     let region = below_five(&rt, true)?;
     let other = below_five(&rt, false)?;
     assert!(rt; same_region(rt.alloc(), &region, &other)?);
+    let mut scratch = Scratch::new(rt.alloc());
+    scratch.reserve_for_regions()?;
+    assert!(rt; region.holds(&word(&rt, 4)?, &mut scratch));
+    assert!(rt; !other.holds(&word(&rt, 5)?, &mut scratch));
     Ok(())
 }
 
+/// The input of one word.
+fn word(rt: &impl AllocGlobal, word: i32) -> Result<Input, Fail> {
+    let mut input = Input::new(rt.alloc());
+    input.push(word)?;
+    Ok(input)
+}
+
 /// Whether a condition of a pool holds on the input of one word.
-fn holds_on(rt: &impl AllocGlobal, pool: &Pool, cond: &Cond, word: i32) -> Result<bool, Fail>
+fn holds_on(rt: &impl AllocGlobal, pool: &Pool, cond: &Cond, n: i32) -> Result<bool, Fail>
     requires { All (λ n. n < length pool.now.terms) cond.now }
 {
     let mut scratch = Scratch::new(rt.alloc());
     pool.reserve_scratch(&mut scratch)?;
-    let mut input = Input::new(rt.alloc());
-    input.push(word)?;
-    Ok(pool.holds(cond, &input, &mut scratch))
+    Ok(pool.holds(cond, &word(rt, n)?, &mut scratch))
 }
 
 /// A copy in a new pool holds what its region holds: `a < 5` on 4 and not on 5.

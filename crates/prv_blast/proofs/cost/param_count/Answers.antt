@@ -1,5 +1,4 @@
-use Rattle.std.proofs.Common.{◌≡◌, ◌∙◌, max, arith}
-use Rattle.prv_blast.specs.Encoders.{run_params}
+use Rattle.std.proofs.Common.{◌∙◌, arith}
 use Rattle.prv_blast.proofs.Costs.{few-params-node, params-more-node}
 use Rattle.prv_blast.proofs.cost.param_count.Goals as goal
 

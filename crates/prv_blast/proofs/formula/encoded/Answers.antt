@@ -1,4 +1,4 @@
-use Rattle.std.proofs.Common.{◌≡◌, ℕ, ◌≤◌, List, [], ◌∙◌, length, get_or, ap, arith}
+use Rattle.std.proofs.Common.{◌≡◌, List, ◌∙◌, length, get_or, ap, arith}
 use Rattle.std.proofs.lemmas.Option.{slice_get-get_or}
 use Rattle.prv_arith.specs.declared.words.Word.{Word}
 use Rattle.prv_blast.specs.Encoders.{encoding_at}

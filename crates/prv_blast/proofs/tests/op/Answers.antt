@@ -1,7 +1,4 @@
-use Rattle.std.proofs.Common.{ℕ}
-use Rattle.prv_model.specs.Terms.{IsTerm}
 use Rattle.prv_pool.specs.Folding.{folded}
-use Rattle.prv_pool.specs.Tables.{term_at}
 use Rattle.prv_pool.proofs.FoldLaws.{folded-term}
 use Rattle.prv_blast.proofs.Pools.{at-known, known-where, longer-where, there-where}
 use Rattle.prv_blast.proofs.tests.op.Goals as goal

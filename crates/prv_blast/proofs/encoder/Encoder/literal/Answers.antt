@@ -1,4 +1,4 @@
-use Rattle.std.proofs.Common.{◌≡◌, Bool, ◌∙◌, sym, ap, if◌then◌else◌}
+use Rattle.std.proofs.Common.{Bool, ◌∙◌, sym, ap, if◌then◌else◌}
 use Rattle.prv_pool.specs.Tables.{term_at}
 use Rattle.prv_blast.specs.Encodings.{with_terms, with_assertion}
 use Rattle.prv_blast.specs.Encoders.{encoding_at}

@@ -1,4 +1,4 @@
-use Rattle.std.proofs.Common.{◌≡◌, ℕ, length}
+use Rattle.std.proofs.Common.{◌≡◌, length}
 use Rattle.prv_pool.specs.Tables.{term_at, add_term}
 use Rattle.prv_blast.specs.Orders.{IsWalk, terms_at, climbed, walk_left}
 use Rattle.prv_blast.proofs.order.Order.visit.Given as goal

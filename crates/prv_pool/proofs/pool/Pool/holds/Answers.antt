@@ -1,7 +1,8 @@
-use Rattle.prv_pool.proofs.ValueLemmas.{nonzero-are}
+use Rattle.std.proofs.Common.{◌∙◌, ap, List, ℕ, map}
+use Rattle.prv_model.specs.Terms.{holds}
+use Rattle.prv_pool.specs.Tables.{term_at}
 use Rattle.prv_pool.proofs.pool.Pool.holds.Goals as goal
 
 pub returns-clause-value : goal.returns-clause-value
 returns-clause-value c =
-    nonzero-are c.args.self.now.terms c.evaluate.new.values.items c.as_slice-2.result.now c.args.input.now c.as_slice.result.now c.end_of-count.result c.args.cond.now c.roots-roots.result.now c.are_nonzero.result c.as_slice-2.ensures.value
-    c.as_slice.ensures.value c.roots-roots.ensures c.evaluate.ensures.values c.end_of-count.ensures.above c.are_nonzero.ensures
+    c.are_nonzero_at.ensures.value ∙ ap (λ (roots : List ℕ). holds (map (term_at c.args.self.now.terms) roots) c.args.input.now) c.roots.ensures
