@@ -1,7 +1,8 @@
 -- The parts that a region is cut into, by the shape of what it is found to be.
 use Rattle.std.specs.List.{AllByRecursion}
 use Rattle.prv_model.specs.Boards.{IsTrueOf}
-use Rattle.std.specs.Prelude.{List, [], ◌∷◌, ◌++◌, ℤ, if◌then◌else◌, map}
+use Rattle.prv_model.specs.Terms.{IsTerm}
+use Rattle.std.specs.Prelude.{ℕ, List, [], ◌∷◌, ◌++◌, ℤ, if◌then◌else◌, map}
 use Rattle.prv_model.specs.declared.entry.Kind.{Kind}
 use Rattle.prv_model.specs.declared.entry.Kind.TheVariants as k
 use Rattle.prv_model.specs.declared.entry.Reason.{Reason}
@@ -67,3 +68,11 @@ parts_of pair region Split t other why =
 -- what each part claims is true of its region
 abbrev pub AreTrue : Pair → List Part → Type 0
 AreTrue pair parts = AllByRecursion (λ p. IsTrueOf pair p.kind p.region) parts
+
+-- a region speaks of the first n words of an input alone
+abbrev pub IsOver : ℕ → List Term → Type 0
+IsOver n region = AllByRecursion (IsTerm n) region
+
+-- so do the regions of some parts
+abbrev pub AreOver : ℕ → List Part → Type 0
+AreOver n parts = AllByRecursion (λ p. IsOver n p.region) parts

@@ -4,7 +4,7 @@ use Rattle.prv_model.specs.Boards.{IsInput, Covers}
 use Rattle.prv_model.specs.declared.entry.Reason.{Reason}
 use Rattle.prv_model.specs.declared.program.Pair.{Pair}
 use Rattle.prv_model.specs.declared.term.Term.{Term}
-use Rattle.prv_part.specs.Parts.{Other, parts_of, AreTrue}
+use Rattle.prv_part.specs.Parts.{Other, parts_of, AreTrue, AreOver}
 use Rattle.prv_part.specs.declared.shape.Shape.{Shape}
 use Rattle.prv_part.specs.declared.shape.Shape.TheVariants.{Empty, Stuck}
 use Rattle.prv_part.specs.declared.part.Part.{Part}
@@ -34,13 +34,14 @@ ShowsRun _ member = IsSome member
 abbrev pub HasPartsOf : Finding → Type 0
 HasPartsOf f = (other : Other) × (why : Reason) × (f.parts ≡ parts_of f.pair f.region f.shape (unwrap_or f.member []) other why)
 
--- a finding is a settlement: its parts are those of its shape, each input of the region lies in exactly one of them, what each claims is true of every input that it holds, and it is not too large
+-- a finding is a settlement: its parts are those of its shape, each input of the region lies in exactly one of them, what each claims is true of every input that it holds, they speak of the pair's parameters alone, and it is not too large
 pub record IsSettlement (f : Finding) : Type 0 where
   pub run : ShowsRun f.shape f.member
   pub member : IfSome f.member (IsInput f.pair.before.params)
   pub parts : HasPartsOf f
   pub once : Covers f.pair.before.params f.region (map (λ p. p.region) f.parts)
   pub true_parts : AreTrue f.pair f.parts
+  pub over : AreOver f.pair.before.params f.parts
   pub few_parts : length f.parts < 2 ^ 30
   pub few_numbers : f.numbers < 2 ^ 62
   pub few_literals : sum (map (λ p. length p.region) f.parts) < 2 ^ 62

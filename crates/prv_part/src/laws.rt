@@ -9,7 +9,7 @@ ghost use Rattle.prv_model.specs.declared.term.Term.{Term};
 ghost use Rattle.prv_model.specs.declared.verdict.Verdict.TheVariants as v;
 ghost use Rattle.prv_pool.specs.Folding.{negation};
 ghost use Rattle.prv_part.specs.Literals.{decided_equality};
-ghost use Rattle.prv_part.specs.Parts.{Other, rests, partition, parts_of, AreTrue};
+ghost use Rattle.prv_part.specs.Parts.{Other, rests, partition, parts_of, AreTrue, IsOver, AreOver};
 ghost use Rattle.prv_part.specs.declared.shape.Shape.{Shape};
 ghost use Rattle.prv_part.specs.declared.shape.Shape.TheVariants as shape;
 
@@ -30,6 +30,12 @@ pub fn parts_cover_their_region()
 /// An input of a region lies in its own partition.
 pub fn partitions_hold_their_input()
     ensures { (pair : Pair) (region : List Term) (t : List ℤ) → IsInput pair.before.params t → holds region t ≡ true → holds (partition pair region t) t ≡ true }
+{}
+
+/// The parts of each shape speak of the pair's parameters alone, where their region does.
+pub fn parts_are_over_parameters()
+    ensures { (pair : Pair) (region : List Term) (shape : Shape) (t : List ℤ) (other : Other) (why : Reason) →
+        IsOver pair.before.params region → AreOver pair.before.params (parts_of pair region shape t other why) }
 {}
 
 /// The parts of each shape are true: of an empty region where no input lies in it; of one that is stuck

@@ -12,7 +12,8 @@ mod shape;
 mod tests;
 
 pub use laws::{
-    partitions_hold_their_input, parts_are_true, parts_cover_their_region, rests_cover_a_region,
+    partitions_hold_their_input, parts_are_over_parameters, parts_are_true,
+    parts_cover_their_region, rests_cover_a_region,
 };
 pub use part::{Caps, Part};
 pub use settlement::Settlement;

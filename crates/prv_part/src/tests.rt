@@ -27,6 +27,8 @@ fn region(alloc: Global, n: i32) -> Result<Region, Fail>
 {
     let mut pool = Pool::new(alloc, 1);
     let node = pool.num(n)?;
+    let count = pool.len();
+    prove!(count <= 1);
     let mut roots = Vec::new(alloc);
     roots.push(node)?;
     let roots = Arc::new(alloc, roots)?;
@@ -91,7 +93,9 @@ fn reads(settlement: &Settlement, shape: Shape, entry: u32, numbers: u64) -> boo
 #[test]
 fn settled(rt: HostRuntime) -> Result<(), Fail> {
     let alloc = rt.alloc();
-    if let Some(pair) = pair(alloc)? {
+    let pair = pair(alloc)?;
+    assert!(rt; pair.is_some(), "pair");
+    if let Some(pair) = pair {
         let settlement = empty(alloc, Arc::try_clone(&pair)?)?;
         assert!(rt; reads(&settlement, Shape::Empty, 3, 7), "empty");
         let settlement = stuck(alloc, pair)?;
