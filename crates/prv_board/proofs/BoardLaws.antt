@@ -1,13 +1,13 @@
 -- What a board holds after a settlement.
-use Rattle.std.proofs.Common.{◌≡◌, ℕ, ◌+◌, ◌<◌, ◌≤◌, ◌^◌, Bool, true, false, List, [], ◌∷◌, ◌++◌, length, map, drop, get_or, Option, Some, refl, sym, ap, ◌∙◌, subst, arith}
+use Rattle.std.proofs.Common.{◌≡◌, ℕ, ◌+◌, ◌<◌, ◌≤◌, ◌^◌, Bool, true, false, List, [], ◌∷◌, length, drop, get_or, Some, refl, sym, ap, ◌∙◌, subst, arith}
 use Rattle.std.proofs.lemmas.List.{drop_more}
 use Rattle.prv_model.specs.Boards.{one_if}
 use Rattle.prv_model.specs.declared.entry.Kind.{Kind}
 use Rattle.prv_part.specs.declared.part.Part.{Part}
 use Rattle.prv_part.specs.Settlements.{Finding}
-use Rattle.prv_board.specs.Slots.{Slot, after, live_parts, part_at, retire}
+use Rattle.prv_board.specs.Slots.{Slot, after, live_parts, part_at}
 use Rattle.prv_board.specs.Counting.{IsWithin, IsSum, AreSmall}
-use Rattle.prv_board.specs.Replays.{Replay, with_one_more, slots, add_up, literals_of, numbers_of, totals, HasRegion, count_kind, counts_of, counts_of_kind, is_same, is_different, is_empty, is_beyond, is_unexplored, is_undecided}
+use Rattle.prv_board.specs.Replays.{Replay, with_one_more, slots, add_up, literals_of, totals, HasRegion, count_kind, counts_of, counts_of_kind, is_same, is_different, is_empty, is_beyond, is_unexplored, is_undecided}
 use Rattle.prv_board.specs.declared.counts.Counts.{Counts}
 use Rattle.prv_board.specs.declared.totals.Totals.{Totals}
 use Rattle.prv_board.proofs.SlotLaws.{add_up-after, add_up-retire, length-after, mapped-some}

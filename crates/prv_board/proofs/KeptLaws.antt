@@ -1,5 +1,5 @@
 -- What a board keeps of its fields goes on after a settlement.
-use Rattle.std.proofs.Common.{◌≡◌, ℕ, zero, suc, ◌+◌, ◌<◌, ◌≤◌, ◌^◌, Bool, true, false, List, [], ◌∷◌, ◌++◌, length, map, set, Option, Some, None, ℤ, unwrap_or, slice_get, refl, sym, ap, ◌∙◌, subst, arith, length-append}
+use Rattle.std.proofs.Common.{◌≡◌, ℕ, zero, suc, ◌+◌, ◌<◌, ◌≤◌, List, [], ◌∷◌, ◌++◌, length, map, set, Option, Some, None, ℤ, unwrap_or, slice_get, refl, sym, ap, ◌∙◌, subst, arith, length-append}
 use Rattle.std.proofs.lemmas.List.Sums.{sum-map, sum_by-cons}
 use Rattle.std.proofs.lemmas.Option.{slice_get_within}
 use Rattle.std.specs.List.{AllByRecursion, sum, sum_by}
@@ -12,9 +12,9 @@ use Rattle.prv_part.specs.declared.shape.Shape.{Shape}
 use Rattle.prv_part.specs.declared.shape.Shape.TheVariants.{Empty, Stuck, Beyond, Whole, Split}
 use Rattle.prv_part.specs.Parts.{Other, parts_of}
 use Rattle.prv_part.specs.Settlements.{Finding, IsSettlement}
-use Rattle.prv_board.specs.Slots.{Slot, after, live_parts, part_at}
-use Rattle.prv_board.specs.Replays.{Replay, BoardView, numbers_of, with_one_more, slots, add_up, literals_of, totals, HasRegion, Applies, counts_of}
-use Rattle.prv_board.specs.Trees.{Stand, origins_from, origins_all, not_retired, AreRetired}
+use Rattle.prv_board.specs.Slots.{Slot, whole, live_parts, part_at}
+use Rattle.prv_board.specs.Replays.{Replay, BoardView, numbers_of, with_one_more, slots, literals_of, totals, HasRegion, Applies, counts_of}
+use Rattle.prv_board.specs.Trees.{Stand, origins_from, origins_all, not_retired}
 use Rattle.prv_board.specs.Kept.{IsTree}
 use Rattle.prv_board.specs.declared.counts.Counts.{Counts}
 use Rattle.prv_board.specs.declared.totals.Totals.{Totals}
@@ -65,6 +65,7 @@ tree-after b first os rs counts sums s new_counts new_sums tree applies settled 
     record {
       caps = tree.caps;
       first = tree.first;
+      over = tree.over;
       replay = replay-push b s tree.replay applies;
       settlements = all-append IsSettlement b.history (s ∷ []) tree.settlements (settled, tt);
       origins =
@@ -155,3 +156,18 @@ tree-ready b first os os' rs rs' counts sums s new_counts new_sums history' plac
     h
     (o ∙ (λ i. os ++ origins_from (is_place i) 0 (is_count i)))
     (r ∙ (λ i. set rs (is_entry i) (Some (record { settlement = is_place i; first = is_start i })) ++ not_retired (is_count i)))
+
+-- equal fields stand for the same board
+pub tree-copy : (pair pair' : Pair) (space space' : List Term) (caps : Caps) (history history' : List Finding) (root root' : Part) (os os' : List Origin) (rs rs' : List (Option Retired)) (tally : Counts) (sums : Totals) →
+    IsTree (record { pair = pair; space = space; caps = caps; history = history }) root os rs tally sums → pair' ≡ pair → space' ≡ space → root' ≡ whole space' → history' ≡ history → os' ≡ os → rs' ≡ rs →
+    IsTree (record { pair = pair'; space = root'.region; caps = caps; history = history' }) root' os' rs' tally sums
+tree-copy pair pair' space space' caps history history' root root' os os' rs rs' tally sums tree p s w h o r =
+    let T : Part → Type 0 = λ x. IsTree (record { pair = pair'; space = x.region; caps = caps; history = history' }) x os' rs' tally sums in
+    let R : Part → Type 0 = λ x. IsTree (record { pair = pair; space = space; caps = caps; history = history }) x os rs tally sums in
+    let S : List Term → Type 0 = λ x. IsTree (record { pair = pair; space = x; caps = caps; history = history }) (whole x) os rs tally sums in
+    let P : Pair → Type 0 = λ x. IsTree (record { pair = x; space = space'; caps = caps; history = history }) (whole space') os rs tally sums in
+    subst T (sym w) (tree-same pair' space' caps history history' (whole space') os os' rs rs' tally sums (subst P (sym p) (subst S (sym s) (subst R tree.first tree))) h o r)
+
+pub replay-same : (pair pair' : Pair) (space space' : List Term) (caps : Caps) (history history' : List Finding) → pair' ≡ pair → space' ≡ space → history' ≡ history →
+    ◌≡◌ {A = Replay} (record { pair = pair'; space = space'; caps = caps; history = history' }) (record { pair = pair; space = space; caps = caps; history = history })
+replay-same pair pair' space space' caps history history' p s h = λ i. record { pair = p i; space = s i; caps = caps; history = h i }

@@ -1,14 +1,14 @@
 -- A replay of settlements is legal.
-use Rattle.std.proofs.Common.{◌≡◌, ℕ, ◌+◌, true, List, [], ◌∷◌, ◌++◌, map, ℤ, Some, refl, sym, ap, ◌∙◌, subst, arith, zero-add}
+use Rattle.std.proofs.Common.{◌≡◌, ℕ, ◌+◌, List, [], ◌∷◌, ℤ, refl, sym, ap, ◌∙◌, subst, arith}
 use Rattle.std.specs.List.{AllByRecursion}
-use Rattle.prv_model.specs.Boards.{IsInput, places, one_if, Covers, IsTrueOf}
+use Rattle.prv_model.specs.Boards.{places, one_if, Covers, IsTrueOf}
 use Rattle.prv_model.specs.Terms.{holds}
 use Rattle.prv_model.specs.declared.program.Pair.{Pair}
 use Rattle.prv_model.specs.declared.term.Term.{Term}
 use Rattle.prv_part.specs.declared.part.Part.{Part}
 use Rattle.prv_part.specs.Settlements.{Finding, IsSettlement}
-use Rattle.prv_board.specs.Slots.{Slot, after, after_all, slots_of, live_parts, part_at, live_slot, whole}
-use Rattle.prv_board.specs.Replays.{Replay, unsettled, with_one_more, slots, add_up, HasRegion, Applies, ApplyInTurn, IsReplay}
+use Rattle.prv_board.specs.Slots.{Slot, after, after_all, live_parts, part_at, whole}
+use Rattle.prv_board.specs.Replays.{Replay, unsettled, with_one_more, slots, add_up, HasRegion, ApplyInTurn, IsReplay}
 use Rattle.prv_board.specs.Legality.{regions, AreLegal, IsLegalBoard}
 use Rattle.prv_board.proofs.SlotLaws.{add_up-after, all-after, mapped-some}
 use Rattle.prv_board.proofs.ReplayLaws.{slots-push}

@@ -5,3 +5,5 @@ pub mod TreeLaws
 pub mod BoardLaws
 pub mod ParentLaws
 pub mod KeptLaws
+pub mod FindLaws
+pub mod EntryLaws

@@ -1,5 +1,5 @@
 -- The parents of entries, by their origins.
-use Rattle.std.proofs.Common.{◌≡◌, ℕ, zero, suc, ◌+◌, ◌<◌, List, [], ◌∷◌, ◌++◌, length, map, Option, Some, None, slice_get, refl, sym, ap, ◌∙◌, subst, arith, append_assoc, length-append}
+use Rattle.std.proofs.Common.{◌≡◌, ℕ, zero, suc, ◌+◌, List, [], ◌∷◌, ◌++◌, length, map, Option, Some, None, slice_get, refl, sym, ap, ◌∙◌, subst, arith, append_assoc, length-append}
 use Rattle.std.proofs.lemmas.List.{append-nil}
 use Rattle.std.proofs.lemmas.Option.{slice_get-map}
 use Rattle.std.specs.Option.{option_map, option_and_then}
@@ -8,7 +8,7 @@ use Rattle.prv_board.specs.Trees.{origins_from, origins_all, parent_at}
 use Rattle.prv_board.specs.Parents.{parts_of_entry, parents_from, parent_of}
 use Rattle.prv_board.specs.declared.parent.Parent.{Parent}
 use Rattle.prv_board.specs.declared.tree.Origin.{Origin}
-use Rattle.prv_board.specs.declared.tree.Origin.TheVariants.{Space, Made}
+use Rattle.prv_board.specs.declared.tree.Origin.TheVariants.{Space}
 use Rattle.prv_board.proofs.TreeLaws.{get-back}
 
 pub map-append : {A B : Type 0} (f : A → B) (xs ys : List A) → map f (xs ++ ys) ≡ map f xs ++ map f ys

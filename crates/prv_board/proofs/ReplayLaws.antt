@@ -1,11 +1,9 @@
 -- A board with one more settlement.
-use Rattle.std.proofs.Common.{◌≡◌, ℕ, ◌+◌, ◌<◌, ◌≤◌, List, [], ◌∷◌, ◌++◌, length, map, Option, Some, refl, sym, ap, ◌∙◌, subst, arith, append_assoc, add_assoc, zero-add}
+use Rattle.std.proofs.Common.{◌≡◌, ◌+◌, List, [], ◌∷◌, ◌++◌, length, sym, subst, arith, append_assoc}
 use Rattle.std.proofs.lemmas.List.{append-nil}
 use Rattle.std.specs.List.{AllByRecursion}
-use Rattle.prv_model.specs.declared.program.Pair.{Pair}
-use Rattle.prv_part.specs.declared.part.Part.{Part}
 use Rattle.prv_part.specs.Settlements.{Finding}
-use Rattle.prv_board.specs.Slots.{Slot, after, after_all, slots_of, live_parts, part_at, live_slot, whole}
+use Rattle.prv_board.specs.Slots.{after, live_slot, whole}
 use Rattle.prv_board.specs.Replays.{Replay, unsettled, with_one_more, slots, numbers_of, Applies, ApplyInTurn, IsReplay}
 use Rattle.prv_board.proofs.SlotLaws.{after_all-push}
 

@@ -1,7 +1,7 @@
 -- What a settlement does to the live entries: whatever is added up over them loses the entry's own and gains that of the parts.
-use Rattle.std.proofs.Common.{◌≡◌, ℕ, zero, suc, ◌+◌, ◌<◌, ◌≤◌, Bool, true, false, List, [], ◌∷◌, ◌++◌, length, map, Option, Some, None, option_to_list, slice_get, refl, sym, ap, ◌∙◌, subst, arith, append_assoc, add_assoc, zero-add, length-append}
+use Rattle.std.proofs.Common.{◌≡◌, ℕ, zero, suc, ◌+◌, List, [], ◌∷◌, ◌++◌, length, map, Option, Some, None, option_to_list, refl, sym, ap, ◌∙◌, subst, arith, append_assoc, add_assoc, zero-add, length-append}
 use Rattle.std.proofs.lemmas.Option.{none-some, same_Some}
-use Rattle.std.specs.Option.{option_map, option_and_then}
+use Rattle.std.specs.Option.{option_map}
 use Rattle.std.specs.List.{AllByRecursion}
 use Rattle.prv_part.specs.declared.part.Part.{Part}
 use Rattle.prv_part.specs.Settlements.{Finding}

@@ -1,13 +1,11 @@
 -- Origins and retirements that stand for entries go on doing so after a settlement.
-use Rattle.std.proofs.Common.{inl, inr, ◌⊎◌, ◌≡◌, ℕ, zero, suc, ◌+◌, ◌<◌, ◌≤◌, Bool, cond, List, [], ◌∷◌, ◌++◌, length, map, set, Option, Some, None, slice_get, refl, sym, ap, ◌∙◌, subst, arith, append_assoc, add-one, length-append}
+use Rattle.std.proofs.Common.{inl, inr, ◌⊎◌, ◌≡◌, ℕ, zero, suc, ◌+◌, ◌<◌, Bool, cond, List, [], ◌∷◌, ◌++◌, length, map, set, Option, Some, None, slice_get, refl, sym, ap, ◌∙◌, subst, arith, append_assoc, length-append}
 use Rattle.std.proofs.lemmas.Option.{none-some, same_Some, slice_get_within}
-use Rattle.std.proofs.lemmas.List.{append-nil}
 use Rattle.std.specs.Option.{option_map, option_and_then}
-use Rattle.std.specs.List.{AllByRecursion}
 use Rattle.prv_model.specs.declared.term.Term.{Term}
 use Rattle.prv_part.specs.declared.part.Part.{Part}
 use Rattle.prv_part.specs.Settlements.{Finding}
-use Rattle.prv_board.specs.Slots.{Slot, live_slot, retire, after, live_part, part_at}
+use Rattle.prv_board.specs.Slots.{Slot, live_slot, retire, after, part_at}
 use Rattle.prv_board.specs.Replays.{HasRegion}
 use Rattle.prv_board.proofs.SlotLaws.{mapped-some}
 use Rattle.prv_board.specs.Trees.{part_from, unless_retired, Stand, origins_from, not_retired, IsRetired, AreRetired}

@@ -1,8 +1,9 @@
 -- What a board keeps of its fields.
-use Rattle.std.specs.Prelude.{◌≡◌, ℕ, ◌∷◌, ◌+◌, ◌≤◌, ◌<◌, ◌^◌, List, length, map, Option, vec_len, vec_capacity}
+use Rattle.std.specs.Prelude.{◌≡◌, ◌∷◌, ◌+◌, ◌≤◌, ◌<◌, ◌^◌, List, length, map, Option, vec_len, vec_capacity}
 use Rattle.std.specs.List.{AllByRecursion}
 use Rattle.std.specs.Arc.{arc_value}
-use Rattle.prv_part.specs.Settlements.{Finding, IsSettlement}
+use Rattle.prv_part.specs.Settlements.{IsSettlement}
+use Rattle.prv_part.specs.Parts.{IsOver}
 use Rattle.prv_part.specs.declared.part.Part.{Part}
 use Rattle.prv_board.specs.Slots.{live_parts, whole}
 use Rattle.prv_board.specs.Replays.{Replay, BoardView, AreCaps, IsReplay, slots, totals, counts_of}
@@ -29,6 +30,7 @@ seen i = record { replay = replay_of i; spare = i.spare }
 pub record IsTree (b : Replay) (root : Part) (os : List Origin) (rs : List (Option Retired)) (tally : Counts) (sums : Totals) : Type 0 where
   pub caps : AreCaps b.caps
   pub first : root ≡ whole b.space
+  pub over : IsOver b.pair.before.params b.space
   pub replay : IsReplay b
   pub settlements : AllByRecursion IsSettlement b.history
   pub origins : os ≡ Space ∷ origins_all 0 b.history

@@ -1,12 +1,11 @@
 -- When the entries of a board say only what is true, of every input of its space.
-use Rattle.std.specs.Prelude.{◌≡◌, ℕ, true, List, map, ℤ, Some}
+use Rattle.std.specs.Prelude.{List, map}
 use Rattle.std.specs.List.{AllByRecursion}
 use Rattle.prv_model.specs.Boards.{Covers, IsTrueOf}
-use Rattle.prv_model.specs.Terms.{holds}
 use Rattle.prv_model.specs.declared.program.Pair.{Pair}
 use Rattle.prv_model.specs.declared.term.Term.{Term}
 use Rattle.prv_part.specs.declared.part.Part.{Part}
-use Rattle.prv_board.specs.Slots.{Slot, live_parts, part_at}
+use Rattle.prv_board.specs.Slots.{live_parts}
 use Rattle.prv_board.specs.Replays.{Replay, slots}
 
 -- the regions of some parts

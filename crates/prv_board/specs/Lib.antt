@@ -3,5 +3,6 @@ pub mod Replays
 pub mod Counting
 pub mod Legality
 pub mod Parents
+pub mod Paths
 pub mod Trees
 pub mod Kept

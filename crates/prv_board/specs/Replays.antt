@@ -1,5 +1,5 @@
 -- What is applied to a board, in which order, and when a settlement may be.
-use Rattle.std.specs.Prelude.{◌≡◌, refl, ℕ, ◌+◌, ◌^◌, ◌≤◌, Bool, true, false, List, [], ◌∷◌, ◌++◌, length, map, Option, Some, option_map}
+use Rattle.std.specs.Prelude.{◌≡◌, refl, ℕ, ◌+◌, ◌^◌, ◌≤◌, Bool, true, false, List, [], ◌∷◌, ◌++◌, length, Some, option_map}
 use Rattle.std.specs.Coded.{Coded, code_by, coded×, coded_ℕ, coded_list}
 use Rattle.prv_model.specs.Boards.{one_if}
 use Rattle.prv_model.specs.declared.entry.Kind.{Kind}
@@ -16,7 +16,6 @@ use Rattle.prv_part.specs.Codes.{finding_code}
 use Rattle.prv_board.specs.Slots.{Slot, slots_of, live_parts, part_at, is_open}
 use Rattle.prv_board.specs.declared.error.ApplyError.{ApplyError}
 use Rattle.prv_board.specs.declared.error.ApplyError.TheVariants.{Stranger, Full, Memory}
-use Rattle.prv_board.specs.declared.error.StrangerWhy.{StrangerWhy}
 use Rattle.prv_board.specs.declared.error.StrangerWhy.TheVariants as stranger
 use Rattle.prv_board.specs.declared.counts.Counts.{Counts}
 use Rattle.prv_board.specs.declared.totals.Totals.{Totals}
@@ -173,10 +172,16 @@ replay_code =
     (λ p. record { pair = p.0; space = p.1.0; caps = p.1.1.0; history = p.1.1.1 })
     (λ _. refl)
 
--- a board and the room that is kept for parts: what contracts see
+-- what contracts see: a board, and the number of parts for which room is kept
 pub record BoardView : Type 0 where
   pub replay : Replay
   pub spare : ℕ
 
+-- a settlement applies to a board, which has room for its parts
+pub record IsReady (v : BoardView) (s : Finding) : Type 0 where
+  pub applies : Applies v.replay s
+  pub room : length s.parts ≤ v.spare
+
 abbrev pub view_code : Coded BoardView
-view_code = code_by (Replay × ℕ) (coded× replay_code coded_ℕ) (λ v. (v.replay, v.spare)) (λ p. record { replay = p.0; spare = p.1 }) (λ _. refl)
+view_code =
+    code_by (Replay × ℕ) (coded× replay_code coded_ℕ) (λ v. (v.replay, v.spare)) (λ p. record { replay = p.0; spare = p.1 }) (λ _. refl)

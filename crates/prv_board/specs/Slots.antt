@@ -1,9 +1,8 @@
 -- The entries of a board: a settlement retires the entry that it settles, and appends its parts.
-use Rattle.std.specs.Prelude.{◌≡◌, ℕ, zero, suc, ◌+◌, ◌<◌, ◌≤◌, nat_lt, nat_le, Bool, true, false, not, List, [], ◌∷◌, ◌++◌, length, map, Option, Some, None, option_and_then, option_to_list, slice_get, if◌then◌else◌}
+use Rattle.std.specs.Prelude.{◌≡◌, ℕ, zero, suc, ◌<◌, ◌≤◌, nat_lt, nat_le, Bool, true, false, not, List, [], ◌∷◌, ◌++◌, map, Option, Some, None, option_and_then, option_to_list, slice_get, if◌then◌else◌}
 use Rattle.std.specs.List.{list_any}
 use Rattle.prv_model.specs.declared.entry.Kind.{Kind}
 use Rattle.prv_model.specs.declared.entry.Kind.TheVariants.{Unexplored, Undecided}
-use Rattle.prv_model.specs.declared.entry.Reason.{Reason}
 use Rattle.prv_model.specs.declared.entry.Reason.TheVariants.{Lines}
 use Rattle.prv_model.specs.declared.term.Term.{Term}
 use Rattle.prv_part.specs.declared.part.Part.{Part}

@@ -1,7 +1,7 @@
 //! Applying settlements.
-ghost use Rattle.std.specs.Prelude.{◌≡◌, ◌+◌, ◌≤◌, ◌<◌, ◌^◌, ◌++◌, ◌∷◌, [], length, IfOk, IfErr, OnOk, OnErr, IsOk, slice_set, vec_len, vec_capacity};
+ghost use Rattle.std.specs.Prelude.{◌≡◌, ◌+◌, ◌≤◌, ◌<◌, ◌++◌, length, IfOk, IfErr, OnOk, OnErr, slice_set, vec_len, vec_capacity};
 ghost use Rattle.std.specs.Arc.{arc_value};
-ghost use Rattle.prv_board.specs.Replays.{slots, with_one_more, Applies, Refuses};
+ghost use Rattle.prv_board.specs.Replays.{slots, with_one_more, Applies, Refuses, IsReady};
 ghost use Rattle.prv_board.specs.Trees.{origins_from, not_retired};
 
 use crate::board::Board;
@@ -65,8 +65,7 @@ impl Board {
 
     /// Refuses a settlement as `apply` does, or makes the room that `apply_ready` needs.
     pub fn reserve_for(&mut self, settlement: &Settlement) -> Result<(), ApplyError>
-        ensures applies { OnOk result (Applies self.old.replay settlement.now) }
-        ensures room { OnOk result (length settlement.now.parts ≤ self.new.spare) }
+        ensures ready { OnOk result (IsReady self.new settlement.now) }
         ensures refused { IfErr result (Refuses self.old.replay settlement.now) }
         ensures unchanged { self.new.replay ≡ self.old.replay }
     {
@@ -92,8 +91,7 @@ impl Board {
 
     /// Applies a settlement for which room was made, without memory.
     pub fn apply_ready(&mut self, settlement: Arc<Settlement>) -> u32
-        requires applies { Applies self.old.replay (arc_value settlement) }
-        requires room { length (arc_value settlement).parts ≤ self.old.spare }
+        requires { IsReady self.old (arc_value settlement) }
         ensures first { result ≡ length (slots self.old.replay) }
         ensures applied { self.new.replay ≡ with_one_more self.old.replay (arc_value settlement) }
     {

@@ -1,8 +1,9 @@
 //! The board and its readers.
-ghost use Rattle.std.specs.Prelude.{◌≡◌, ◌≤◌, ◌^◌, length, map, IfOk};
+ghost use Rattle.std.specs.Prelude.{◌≡◌, ◌≤◌, ◌^◌, length, map, IfOk, IfSome};
 ghost use Rattle.std.specs.Arc.{arc_value};
 ghost use Rattle.std.specs.Option.{option_copied};
-ghost use Rattle.prv_board.specs.Slots.{live_parts, part_at};
+ghost use Rattle.prv_part.specs.Parts.{IsOver};
+ghost use Rattle.prv_board.specs.Slots.{live_parts, part_at, whole};
 ghost use Rattle.prv_board.specs.Replays.{AreCaps, unsettled, slots, totals, counts_of};
 
 use crate::counts::{Counts, count_kind};
@@ -53,6 +54,17 @@ impl Model for Board {
     ghost invariant = { AreKept };
 }
 
+/// What is said of a region before anything is known of it.
+pub(crate) fn unexplored(alloc: Global, region: Region) -> Part
+    ensures { result ≡ whole region }
+{
+    Part {
+        region,
+        kind: Kind::Unexplored,
+        marks: Items::new(alloc),
+    }
+}
+
 impl Board {
     /// The board of a pair over a space that nothing was applied to: entry 0 is the space, unexplored.
     pub fn new(
@@ -62,15 +74,12 @@ impl Board {
         caps: Caps,
     ) -> Result<Board, AllocError>
         requires few { length space ≤ 2 }
+        requires over { IsOver (arc_value pair).before.params space }
         requires caps { AreCaps caps }
         ensures { IfOk result (λ board. board.replay ≡ unsettled (arc_value pair) space caps) }
     {
         let literals = space.parts().roots.len() as u64;
-        let whole = Part {
-            region: space,
-            kind: Kind::Unexplored,
-            marks: Items::from_vec(Vec::new(alloc)),
-        };
+        let whole = unexplored(alloc, space);
         let mut origins = Vec::new(alloc);
         origins.push(Origin::Space)?;
         let mut retired = Vec::new(alloc);
@@ -93,9 +102,12 @@ impl Board {
         })
     }
 
-    /// What a live entry says; none exactly where no live entry has the number.
+    /// What a live entry says; none exactly where no live entry has the number. Its region speaks of the
+    /// pair's parameters alone, in at most 2^48 literals.
     pub fn entry(&self, number: u32) -> Option<&Part>
-        ensures { option_copied result ≡ part_at (slots self.now.replay) number }
+        ensures value { option_copied result ≡ part_at (slots self.now.replay) number }
+        ensures known { IfSome result (λ part. IsOver self.now.replay.pair.before.params part.now.region) }
+        ensures few { IfSome result (λ part. length part.now.region ≤ 2 ^ 48) }
     {
         entry_at(
             &self.whole,

@@ -1,5 +1,5 @@
 //! How many entries there are of each kind.
-ghost use Rattle.std.specs.Prelude.{◌≡◌, ◌+◌, ◌≤◌, ◌<◌, ◌^◌};
+ghost use Rattle.std.specs.Prelude.{◌≡◌, ◌+◌};
 ghost use Rattle.prv_board.specs.Replays.{counts_of_kind, counts_of};
 ghost use Rattle.prv_board.specs.Counting.{IsWithin, IsSum, AreSmall};
 

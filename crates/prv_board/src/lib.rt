@@ -8,11 +8,16 @@
 mod apply;
 mod board;
 mod claim;
+mod copy;
 mod counts;
 mod error;
+mod find;
 mod legal;
 mod parent;
+mod path;
 mod refuse;
+#[cfg(test)]
+mod tests;
 mod totals;
 mod tree;
 

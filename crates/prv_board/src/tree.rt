@@ -1,5 +1,5 @@
 //! Where each entry comes from, and which settlement retired it.
-ghost use Rattle.std.specs.Prelude.{◌≡◌, map, slice_get};
+ghost use Rattle.std.specs.Prelude.{◌≡◌, map, option_and_then, slice_get};
 ghost use Rattle.std.specs.Arc.{arc_value};
 ghost use Rattle.std.specs.Option.{option_copied};
 ghost use Rattle.prv_board.specs.Trees.{part_from, unless_retired};
@@ -22,6 +22,16 @@ pub enum Origin {
 pub struct Retired {
     pub settlement: u32,
     pub first: u32,
+}
+
+/// Which settlement retired the entry of a number, if one did.
+pub fn retired_by(retired: &[Option<Retired>], number: u32) -> Option<Retired>
+    ensures { result ≡ option_and_then (λ by. by) (slice_get retired.now number) }
+{
+    match at(retired, number as usize) {
+        Some(by) => *by,
+        None => None,
+    }
 }
 
 /// What the entry of a number says, if there is one that isn't retired.

@@ -1,4 +1,4 @@
-use Rattle.std.proofs.Common.{◌++◌, ◌∷◌, [], ◌+◌, ◌∙◌, ap, sym, List, ℕ, arith, append_assoc, zero-add}
+use Rattle.std.proofs.Common.{◌++◌, ◌∷◌, [], ◌∙◌, ap, sym, List, ℕ, arith, append_assoc, zero-add}
 use Rattle.prv_board.specs.Trees.{origins_from}
 use Rattle.prv_board.specs.declared.tree.Origin.{Origin}
 use Rattle.prv_board.specs.declared.tree.Origin.TheVariants.{Made}

@@ -1,4 +1,4 @@
-use Rattle.std.proofs.Common.{◌≡◌, ◌<◌, ◌≤◌, ◌^◌, ◌++◌, ◌∷◌, [], ◌∙◌, refl, List, ℕ, Option, length, map, ap, sym, subst, arith}
+use Rattle.std.proofs.Common.{◌++◌, ◌∷◌, [], ◌∙◌, refl, List, Option, length, map, ap, sym, subst, arith}
 use Rattle.std.specs.Arc.{arc_value}
 use Rattle.prv_board.specs.Kept.{replay_of, seen}
 use Rattle.prv_part.specs.declared.part.Part.{Part}

@@ -1,8 +1,8 @@
-use Rattle.std.proofs.Common.{◌≡◌, ◌∙◌, Some, ℕ, List, length, ap, sym, subst, arith}
+use Rattle.std.proofs.Common.{◌∙◌, ℕ, List, length, ap, sym, subst, arith}
 use Rattle.prv_part.specs.declared.part.Part.{Part}
 use Rattle.prv_board.specs.Slots.{live_parts, part_at}
-use Rattle.prv_board.specs.Counting.{IsWithin, IsSum, AreSmall}
-use Rattle.prv_board.specs.Replays.{slots, counts_of, counts_of_kind}
+use Rattle.prv_board.specs.Counting.{IsWithin, IsSum}
+use Rattle.prv_board.specs.Replays.{slots, counts_of}
 use Rattle.prv_board.specs.declared.counts.Counts.{Counts}
 use Rattle.prv_board.proofs.BoardLaws.{kind-within, left-small, counts-with}
 use Rattle.prv_board.proofs.board.Board.counts_with.Goals as goal
@@ -10,7 +10,7 @@ use Rattle.prv_board.proofs.board.Board.counts_with.Goals as goal
 pub less-left-requires : goal.less-left-requires
 less-left-requires c =
     let b = c.args.self.now.replay in
-    let at = ap (λ (n : ℕ). part_at (slots b) n) (sym c.entry.ensures) ∙ sym c.in-Some.ensures in
+    let at = ap (λ (n : ℕ). part_at (slots b) n) (sym c.entry.ensures) ∙ sym c.in-Some.ensures.value in
     let P : Counts → Type 0 = λ k. IsWithin k (counts_of (live_parts (slots b))) in
     let Q : Counts → Type 0 = λ k. IsWithin c.count_kind.result k in
     subst Q (sym c.counts.ensures.value) (subst P (sym c.count_kind.ensures) (kind-within (slots b) c.args.settlement.now.entry c.in-Some.part.now at))
@@ -25,7 +25,7 @@ with_parts-requires c =
 pub returns : goal.returns
 returns c =
     let b = c.args.self.now.replay in
-    let at = ap (λ (n : ℕ). part_at (slots b) n) (sym c.entry.ensures) ∙ sym c.in-Some.ensures in
+    let at = ap (λ (n : ℕ). part_at (slots b) n) (sym c.entry.ensures) ∙ sym c.in-Some.ensures.value in
     let P : Counts → Type 0 = λ k. IsSum c.less-left.result c.count_kind.result k in
     let Q : Counts → Type 0 = λ k. IsSum c.less-left.result k (counts_of (live_parts (slots b))) in
     let R : List Part → Type 0 = λ ps. IsSum c.less-left.result (counts_of ps) c.with_parts.result in

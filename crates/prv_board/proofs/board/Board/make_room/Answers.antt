@@ -1,4 +1,4 @@
-use Rattle.std.proofs.Common.{◌≡◌, arith, ap, sym, ◌∙◌, refl, List, map}
+use Rattle.std.proofs.Common.{arith, ap, refl, map}
 use Rattle.std.specs.Arc.{arc_value}
 use Rattle.prv_board.specs.Kept.{replay_of}
 use Rattle.prv_board.proofs.KeptLaws.{tree-same}

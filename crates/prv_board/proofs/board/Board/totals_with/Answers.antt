@@ -1,7 +1,7 @@
-use Rattle.std.proofs.Common.{◌≡◌, ◌+◌, ◌<◌, ◌^◌, length, arith, ap, sym, ◌∙◌, ℕ, List}
+use Rattle.std.proofs.Common.{length, arith, ap, ◌∙◌, List}
 use Rattle.prv_part.specs.declared.part.Part.{Part}
 use Rattle.prv_pool.specs.Tables.{term_at}
-use Rattle.prv_board.specs.Replays.{slots, totals, literals_of}
+use Rattle.prv_board.specs.Replays.{slots, literals_of}
 use Rattle.prv_board.specs.declared.totals.Totals.{Totals}
 use Rattle.prv_board.proofs.KeptLaws.{live-some, literals-sum, roots-length}
 use Rattle.prv_board.proofs.BoardLaws.{totals-with, region-within}

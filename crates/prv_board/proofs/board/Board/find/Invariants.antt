@@ -1,0 +1,14 @@
+use Rattle.std.proofs.Common.{◌≡◌, ◌-◌, length}
+use Rattle.prv_board.specs.Paths.{Holds}
+use Rattle.prv_board.specs.Replays.{slots}
+use Rattle.prv_board.proofs.board.Board.find.Given as goal
+
+-- the entry holds the input
+abbrev pub invariant-loop-next : goal.invariant-loop-next
+invariant-loop-next l = record {
+  here : Holds (slots l.self.replay) l.input l.number;
+  room : l.scratch ≡ l.fn.scratch;
+}
+
+abbrev pub decreases-loop-next : goal.decreases-loop-next
+decreases-loop-next l = length (slots l.self.replay) - l.number

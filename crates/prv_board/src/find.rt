@@ -1,0 +1,89 @@
+//! Which entry holds an input.
+ghost use Rattle.std.specs.Prelude.{◌≡◌, ◌≤◌, ◌<◌, ◌^◌, true, Some, length, OnOk};
+ghost use Rattle.std.specs.Option.{MatchOption};
+ghost use Rattle.prv_model.specs.Boards.{places};
+ghost use Rattle.prv_model.specs.Terms.{holds};
+ghost use Rattle.prv_board.specs.Replays.{slots};
+ghost use Rattle.prv_board.specs.Legality.{regions};
+ghost use Rattle.prv_board.specs.Paths.{Holds, HoldsAlone, HoldsPart, IsStep};
+
+use crate::board::Board;
+use crate::tree::retired_by;
+use prv_model::Input;
+use prv_part::Part;
+use prv_pool::{MAX_REGION_NODES, Scratch};
+use std::alloc::AllocError;
+
+/// The place of the part that holds an input.
+fn which(parts: &[Part], input: &Input, scratch: &mut Scratch) -> u32
+    requires few { length parts.now < 2 ^ 30 }
+    requires once { places (regions parts.now) input.now ≡ 1 }
+    requires reserved { MAX_REGION_NODES ≤ scratch.old }
+    ensures part { HoldsPart parts.now input.now result }
+    ensures room { scratch.new ≡ scratch.old }
+{
+    for i in 0..parts.len() {
+        let part = &parts[i];
+        if part.region.holds(input, scratch) {
+            return i as u32;
+        }
+    }
+    unreachable!()
+}
+
+impl Board {
+    /// Makes room in a scratch for `find`, `path` and `in_space`. Where memory is short, the room stays as it was.
+    pub fn reserve(&self, scratch: &mut Scratch) -> Result<(), AllocError>
+        ensures reserved { OnOk result (MAX_REGION_NODES ≤ scratch.new) }
+        ensures kept { scratch.old ≤ scratch.new }
+    {
+        let _ = &self.pair;
+        scratch.reserve_for_regions()
+    }
+
+    /// Whether an input lies in the space that the board covers. It takes no memory.
+    pub fn in_space(&self, input: &Input, scratch: &mut Scratch) -> bool
+        requires reserved { MAX_REGION_NODES ≤ scratch.old }
+        ensures value { result ≡ holds self.now.replay.space input.now }
+        ensures room { scratch.new ≡ scratch.old }
+    {
+        self.whole.region.holds(input, scratch)
+    }
+
+    /// The number of the one live entry that holds an input of the space.
+    ///
+    /// It goes from entry 0 along the settlements that retired entries, and tests the parts of one settlement
+    /// at a time. It takes no memory.
+    pub fn find(&self, input: &Input, scratch: &mut Scratch) -> u32
+        requires arity { length input.now ≡ self.now.replay.pair.before.params }
+        requires inside { holds self.now.replay.space input.now ≡ true }
+        requires reserved { MAX_REGION_NODES ≤ scratch.old }
+        ensures found { HoldsAlone (slots self.now.replay) input.now result }
+        ensures room { scratch.new ≡ scratch.old }
+    {
+        let mut number = 0;
+        while let Some(next) = self.step(number, input, scratch) {
+            number = next;
+        }
+        number
+    }
+
+    /// The part of a retired entry that holds an input, as the entry does; none where the entry is live.
+    pub(crate) fn step(&self, number: u32, input: &Input, scratch: &mut Scratch) -> Option<u32>
+        requires arity { length input.now ≡ self.now.replay.pair.before.params }
+        requires inside { holds self.now.replay.space input.now ≡ true }
+        requires reserved { MAX_REGION_NODES ≤ scratch.old }
+        requires here { Holds (slots self.now.replay) input.now number }
+        ensures step { MatchOption result (HoldsAlone (slots self.now.replay) input.now number) (IsStep self.now.replay input.now number) }
+        ensures room { scratch.new ≡ scratch.old }
+    {
+        let _words = input.as_slice();
+        match retired_by(self.retired.as_slice(), number) {
+            Some(by) => {
+                let parts = self.settlements[by.settlement as usize].parts();
+                Some(by.first + which(parts, input, scratch))
+            }
+            None => None,
+        }
+    }
+}
