@@ -114,7 +114,7 @@ def main():
         for seed in range(25):
             write(folder / f"random_{variables}_{seed:02}.cnf", *random_three(variables, seed))
     write(folder / "adders_32.cnf", *adders(32))
-    for bits in (6, 7):
+    for bits in (6, 7, 8):
         write(folder / f"multipliers_{bits}.cnf", *multipliers(bits))
 
 

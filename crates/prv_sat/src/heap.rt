@@ -11,7 +11,7 @@ pub struct Heap {
     bump: f64,
 }
 
-const DECAY: f64 = 0.95;
+const DECAY: f64 = 0.97;
 
 const LARGE: f64 = 1e100;
 
@@ -33,6 +33,11 @@ impl Heap {
     /// How many variables there are.
     pub fn len(&self) -> usize {
         self.vars.len()
+    }
+
+    /// Whether a variable is there.
+    pub fn holds(&self, var: u32) -> bool {
+        self.place(var) > 0
     }
 
     /// Adds a variable that isn't there.

@@ -12,28 +12,30 @@ use prv_propagate::{Step, Trail};
 use std::alloc::{AllocError, Global};
 
 /// At most so many free inputs are decided before other variables.
-const FEW_INPUTS: usize = 16;
+const FEW_INPUTS: usize = 10;
 
 #[derive(Drop)]
 pub struct Order {
     pub heap: Heap,
     phases: Vec<bool>,
-    inputs: u32,
+    /// The inputs that stand in clauses.
+    inputs: Vec<u32>,
     few: Vec<u32>,
     listed_at: usize,
 }
 
 impl Order {
-    /// The variables of the formula's clauses. The first so many variables are inputs.
+    /// The variables of the formula's clauses. Of the first so many those that stand in clauses are inputs.
     pub fn new(alloc: Global, cnf: &Cnf, inputs: u32) -> Result<Order, AllocError> {
         let mut heap = Heap::new(alloc, cnf.vars())?;
         for clause in cnf.clauses() {
             insert_all(&mut heap, clause.lits())?;
         }
+        let inputs = used_inputs(alloc, &heap, inputs.min(cnf.vars()))?;
         Ok(Order {
             heap,
             phases: vec![in alloc; false; cnf.vars() as usize + 1]?,
-            inputs: inputs.min(cnf.vars()),
+            inputs,
             few: Vec::with_capacity(alloc, FEW_INPUTS)?,
             listed_at: usize::MAX,
         })
@@ -63,7 +65,7 @@ impl Order {
         let fixed = trail.steps().len();
         if self.listed_at != fixed {
             self.listed_at = fixed;
-            list_free(self.inputs, trail, &mut self.few)?;
+            list_free(self.inputs.as_slice(), trail, &mut self.few)?;
         }
         Ok(())
     }
@@ -98,17 +100,28 @@ fn insert_all(heap: &mut Heap, lits: &[Lit]) -> Result<(), AllocError> {
     Ok(())
 }
 
-/// The free ones of the first so many variables, or none where they are not few.
-fn list_free(inputs: u32, trail: &Trail, few: &mut Vec<u32>) -> Result<(), AllocError> {
-    few.clear();
-    for before in 0..inputs {
+/// Those of the first so many variables that a heap holds.
+fn used_inputs(alloc: Global, heap: &Heap, count: u32) -> Result<Vec<u32>, AllocError> {
+    let mut inputs = Vec::new(alloc);
+    for before in 0..count {
         let var = before + 1;
-        if is_free(trail, positive(var)) {
+        if heap.holds(var) {
+            inputs.push(var)?;
+        }
+    }
+    Ok(inputs)
+}
+
+/// The free ones of some inputs, or none where they are not few.
+fn list_free(inputs: &[u32], trail: &Trail, few: &mut Vec<u32>) -> Result<(), AllocError> {
+    few.clear();
+    for var in inputs {
+        if is_free(trail, positive(*var)) {
             if few.len() >= FEW_INPUTS {
                 few.clear();
                 return Ok(());
             }
-            few.push(var)?;
+            few.push(*var)?;
         }
     }
     Ok(())
