@@ -1,5 +1,5 @@
 -- A settlement that is supported by a record is a true one, and what settling gives is a support.
-use Rattle.std.proofs.Common.{◌≡◌, ◌≢◌, ℕ, ◌+◌, ◌<◌, ◌≤◌, ◌^◌, Bool, true, false, List, [], ◌∷◌, ◌++◌, length, Option, Some, None, IfSome, unwrap_or, ℤ, if◌then◌else◌, refl, sym, ap, ◌∙◌, subst}
+use Rattle.std.proofs.Common.{◌≡◌, ◌≢◌, ℕ, ◌<◌, ◌≤◌, ◌^◌, Bool, true, false, List, [], ◌∷◌, ◌++◌, length, Option, Some, None, IfSome, unwrap_or, ℤ, if◌then◌else◌, refl, sym, ap, ◌∙◌, subst}
 use Rattle.std.specs.List.{AllByRecursion}
 use Rattle.prv_model.specs.Boards.{IsInput}
 use Rattle.prv_model.specs.Terms.{IsTerm, holds}
@@ -18,6 +18,7 @@ use Rattle.prv_part.specs.Settlements.{Finding, IsSettlement, ShowsRun}
 use Rattle.prv_part.specs.declared.shape.Shape.{Shape}
 use Rattle.prv_part.specs.declared.shape.Shape.TheVariants as s
 use Rattle.prv_part.proofs.Covering.{parts-cover}
+use Rattle.prv_part.proofs.Overs.{parts-over}
 use Rattle.prv_part.proofs.Truths.{empty-true, stuck-true, beyond-true, whole-true, found-true, left-true}
 use Rattle.prv_record.specs.declared.raw.Raw.{Raw}
 use Rattle.prv_record.specs.declared.raw.RawOther.{RawOther}
@@ -38,7 +39,7 @@ use Rattle.prv_settle.proofs.Sizes.{AreFew, one-few, whole-few, split-few, secon
 
 -- ---- what each stage says
 
-abbrev staged : Bool → Bool → Bool → Bool → Stage
+abbrev pub staged : Bool → Bool → Bool → Bool → Stage
 staged w m b g = if w then Wide else if m then Literals else if b then Beyond else if g then Granted else Open
 
 beyond-says : (w m b g : Bool) → staged w m b g ≡ Beyond → (m ≡ false) × (b ≡ true)
@@ -93,6 +94,7 @@ module _ (pair : Pair) (region : List Term) (entry : ℕ) (known : AllByRecursio
     parts = (other_of other, reason_of other, refl);
     once = parts-cover pair n region shape (unwrap_or member []) (other_of other) (reason_of other);
     true_parts = all;
+    over = parts-over pair region shape (unwrap_or member []) (other_of other) (reason_of other) known;
     few_parts = sizes.parts;
     few_numbers = small;
     few_literals = sizes.literals;

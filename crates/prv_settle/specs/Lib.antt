@@ -2,6 +2,10 @@ pub mod Probes
 pub mod Counts
 pub mod Grounds
 pub mod Answers
+pub mod Asking
 pub mod Stages
 pub mod Settlings
 pub mod Supported
+pub mod Making
+pub mod Pairings
+pub mod Halving

@@ -1,13 +1,28 @@
-//! Settling a region: what one run of both versions, the conditions that it gives, and what a solver finds
-//! of the rest come to, with the grounds of each claim. So far the definitions and their laws.
+//! Settling a region: one run of both versions, the conditions that it gives, and what the solver finds
+//! of the rest, with the grounds of each claim.
 #![tactic(auto)]
 
 mod answer;
+mod cut;
+mod equality;
+mod error;
+mod halves;
 mod laws;
 mod limits;
+mod partition;
+mod parts;
+mod probe;
+mod record;
+mod runs;
+mod search;
+mod settled;
+mod settling;
 
+pub use error::SettleAtError;
 pub use laws::{
     granted_partitions_have_no_other_part, refuted_conditions_have_no_input,
     settled_regions_are_supported, supported_settlements_are_true,
 };
 pub use limits::{MAX_LINES, MAX_NODES, MAX_NUMBERS, MAX_PAYLOAD};
+pub use settled::Settled;
+pub use settling::{Options, settle, settle_at};

@@ -1,6 +1,10 @@
 /// The most distinct terms that are made for one settlement.
 pub const MAX_NODES: u32 = 20_000;
 
+/// Room for the negations that only parts need, which aren't counted: two slices have at most so many
+/// literals.
+pub(crate) const MORE_NODES: u32 = 5_000;
+
 /// The most numbers of a log, the last line of one that refutes not counted.
 pub const MAX_NUMBERS: u32 = 1_000_000;
 

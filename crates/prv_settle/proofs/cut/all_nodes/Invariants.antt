@@ -1,0 +1,14 @@
+use Rattle.std.proofs.Common.{◌≡◌, ◌++◌, map, take}
+use Rattle.prv_pool.specs.Copies.{Grown}
+use Rattle.prv_pool.specs.Folding.{negation}
+use Rattle.prv_general.specs.Answers.{terms_at}
+use Rattle.prv_settle.specs.Making.{AreNodes}
+use Rattle.prv_settle.proofs.cut.all_nodes.Given as goal
+
+abbrev pub invariant-loop-node : goal.invariant-loop-node
+invariant-loop-node l = record {
+  grows : Grown l.fn.pool.terms l.pool.terms;
+  nodes : AreNodes l.pool.terms l.nodes.items;
+  terms : terms_at l.pool.terms l.nodes.items ≡
+      (terms_at l.fn.pool.terms l.partition ++ terms_at l.fn.pool.terms l.more) ++ map negation (terms_at l.fn.pool.terms (take l.node-index l.node-items));
+}

@@ -1,0 +1,273 @@
+//! Settlements with their records, shape by shape.
+ghost use Rattle.std.specs.Prelude.{◌≡◌, ◌+◌, ◌*◌, ◌<◌, ◌≤◌, ◌^◌, ◌∷◌, [], ◌++◌, length, Some, None, All, IfOk, IfSome};
+ghost use Rattle.std.specs.Arc.{arc_value};
+ghost use Rattle.prv_model.specs.Terms.{IsTerm};
+ghost use Rattle.prv_pool.specs.Tables.{term_at};
+ghost use Rattle.prv_check.specs.LogLines.{line_numbers};
+ghost use Rattle.prv_check.specs.Spending.{log_numbers as log_numbers_of};
+ghost use Rattle.prv_part.specs.Parts.{unmarked as unmarked_of};
+ghost use Rattle.prv_part.specs.Settlements.{finding, IsSettlement};
+ghost use Rattle.prv_record.specs.Payloads.{proof_length};
+ghost use Rattle.prv_general.specs.Answers.{terms_at};
+ghost use Rattle.prv_settle.specs.Answers.{IsShown};
+ghost use Rattle.prv_settle.specs.Making.{AreNodes, claimed, second_of, parts_from};
+ghost use Rattle.prv_settle.specs.Settlings.{IsRecord};
+ghost use Rattle.prv_settle.specs.Supported.{raw_parts, parts_terms, proof_numbers as proof_numbers_of, finding_of};
+
+use crate::cut::Cut;
+use crate::parts::{Terms, add_rests, decided_part, unmarked};
+use crate::settled::Settled;
+use prv_check::{Line, Log};
+use prv_model::{Input, Kind, Pair};
+use prv_part::{Part, Settlement, Shape};
+use prv_pool::Region;
+use prv_record::{Proof, Raw, RawOther};
+use std::alloc::{AllocError, Global};
+use std::sync::Arc;
+
+/// Parts, and the count of their distinct terms.
+#[derive(Drop)]
+pub(crate) struct Parts {
+    pub(crate) list: Vec<Part>,
+    pub(crate) terms: u32,
+}
+
+/// The settlement of a region by its record, of these parts.
+///
+/// A proof of too many numbers, which no search gives, is answered as want of memory.
+pub(crate) fn seal(
+    alloc: Global,
+    pair: &Arc<Pair>,
+    region: &Region,
+    raw: Raw,
+    parts: Parts,
+) -> Result<Settled, AllocError>
+    requires grounds { IsRecord (IsShown (arc_value pair.now).before.params) (arc_value pair.now) region.now raw.entry raw }
+    requires known { All (IsTerm (arc_value pair.now).before.params) region.now }
+    requires few { length region.now ≤ 2 ^ 48 }
+    requires parts { parts.list.items ≡ raw_parts (arc_value pair.now) region.now raw }
+    requires terms { parts.terms ≡ length (parts_terms parts.list.items) }
+    ensures { IfOk result (λ s. s ≡ record { finding = finding_of (arc_value pair.now) region.now raw; raw = raw }) }
+{
+    let Parts { list, terms } = parts;
+    match proof_numbers(&raw.proof) {
+        None => Err(AllocError),
+        Some(numbers) => {
+            let settlement = settlement_of(
+                alloc,
+                pair,
+                region,
+                &raw,
+                list,
+                u64::from(terms) + numbers,
+            )?;
+            let settled = Settled::new(alloc, settlement, raw)?;
+            Ok(settled)
+        }
+    }
+}
+
+/// The settlement of the shape that a record names.
+fn settlement_of(
+    alloc: Global,
+    pair: &Arc<Pair>,
+    region: &Region,
+    raw: &Raw,
+    parts: Vec<Part>,
+    numbers: u64,
+) -> Result<Settlement, AllocError>
+    requires { IsSettlement (finding (arc_value pair.now) raw.now.entry region.now raw.now.member raw.now.shape parts.items numbers) }
+    ensures { IfOk result (λ s. s ≡ finding (arc_value pair.now) raw.now.entry region.now raw.now.member raw.now.shape parts.items numbers) }
+{
+    let pair = Arc::try_clone(pair)?;
+    let region = region.share()?;
+    match (raw.shape, copied(alloc, &raw.member)?) {
+        (Shape::Empty, _) => Settlement::empty(pair, raw.entry, region, parts, numbers),
+        (Shape::Stuck, member) => {
+            Settlement::stuck(pair, raw.entry, region, member, parts, numbers)
+        }
+        (Shape::Whole, Some(member)) => {
+            Settlement::whole(pair, raw.entry, region, member, parts, numbers)
+        }
+        (Shape::Split, Some(member)) => {
+            Settlement::split(pair, raw.entry, region, member, parts, numbers)
+        }
+        (Shape::Beyond, Some(member)) => {
+            Settlement::beyond(pair, raw.entry, region, member, parts, numbers)
+        }
+        (_, None) => unreachable!(),
+    }
+}
+
+/// The input once more, if there is one.
+fn copied(alloc: Global, input: &Option<Input>) -> Result<Option<Input>, AllocError>
+    ensures { IfOk result (λ o. o ≡ input.now) }
+{
+    match input {
+        None => Ok(None),
+        Some(input) => Ok(Some(input.copy(alloc)?)),
+    }
+}
+
+/// The one part that is a whole region.
+pub(crate) fn only_part(alloc: Global, kind: Kind, region: &Region) -> Result<Parts, AllocError>
+    ensures list { IfOk result (λ parts. parts.list.items ≡ unmarked_of kind region.now ∷ []) }
+    ensures terms { IfOk result (λ parts. parts.terms ≡ length (parts_terms (unmarked_of kind region.now ∷ []))) }
+{
+    let terms = Terms::of(alloc, region)?;
+    let mut list = Vec::new(alloc);
+    let all = terms.front(alloc, terms.len())?;
+    list.push(unmarked(alloc, kind, all))?;
+    Ok(Parts {
+        list,
+        terms: terms.count(),
+    })
+}
+
+/// The partition with a claim, and the rests.
+pub(crate) fn whole_parts(alloc: Global, kind: Kind, cut: Cut) -> Result<Parts, AllocError>
+    requires region { cut.region ≤ length cut.partition.items }
+    requires nodes { AreNodes cut.pool.terms cut.partition.items }
+    ensures list { IfOk result (λ parts. parts.list.items ≡ parts_from cut.region (terms_at cut.pool.terms cut.partition.items)
+        (record { region = terms_at cut.pool.terms cut.partition.items; kind = kind; marks = cut.marks.items } ∷ [])) }
+    ensures terms { IfOk result (λ parts. parts.terms ≡ length (parts_terms parts.list.items)) }
+{
+    let region = cut.region;
+    let literals = cut.literals();
+    let marks = Vec::from_slice(alloc, cut.marks.as_slice())?;
+    let terms = cut.into_terms(alloc, &[])?;
+    let all = region + literals;
+    let mut list = Vec::new(alloc);
+    let first = terms.front(alloc, all)?;
+    list.push(decided_part(alloc, kind, first, marks.as_slice())?)?;
+    add_rests(alloc, &terms, region, literals, all, &mut list)?;
+    Ok(Parts {
+        list,
+        terms: terms.count(),
+    })
+}
+
+/// Both halves of the partition with their claims, and the rests. The halves are those of the decided
+/// equality and of its negation.
+pub(crate) fn split_parts(
+    alloc: Global,
+    agree: bool,
+    member: &Input,
+    other: &RawOther,
+    first: u32,
+    second: u32,
+    cut: Cut,
+) -> Result<Parts, AllocError>
+    requires region { cut.region ≤ length cut.partition.items }
+    requires nodes { AreNodes cut.pool.terms cut.partition.items }
+    requires first { first < length cut.pool.terms }
+    requires second { second < length cut.pool.terms }
+    ensures list { IfOk result (λ parts. parts.list.items ≡ parts_from cut.region (terms_at cut.pool.terms cut.partition.items) (
+        record { region = terms_at cut.pool.terms cut.partition.items ++ term_at cut.pool.terms first ∷ []; kind = claimed agree member.now; marks = cut.marks.items }
+        ∷ second_of agree other.now cut.marks.items (terms_at cut.pool.terms cut.partition.items ++ term_at cut.pool.terms second ∷ []) ∷ [])) }
+    ensures terms { IfOk result (λ parts. parts.terms ≡ length (parts_terms parts.list.items)) }
+{
+    let region = cut.region;
+    let literals = cut.literals();
+    let marks = Vec::from_slice(alloc, cut.marks.as_slice())?;
+    let halves = [first, second];
+    let terms = cut.into_terms(alloc, &halves)?;
+    let all = region + literals;
+    let mut list = Vec::new(alloc);
+    let half = terms.front_with(alloc, all, all)?;
+    let kind = kind_of(alloc, agree, member)?;
+    list.push(decided_part(alloc, kind, half, marks.as_slice())?)?;
+    let half = terms.front_with(alloc, all, all + 1)?;
+    list.push(second_part(alloc, agree, other, half, marks.as_slice())?)?;
+    add_rests(alloc, &terms, region, literals, all + 2, &mut list)?;
+    Ok(Parts {
+        list,
+        terms: terms.count(),
+    })
+}
+
+/// The second part of a split.
+fn second_part(
+    alloc: Global,
+    agree: bool,
+    other: &RawOther,
+    region: Region,
+    marks: &[u8],
+) -> Result<Part, AllocError>
+    ensures { IfOk result (λ part. part ≡ second_of agree other.now marks.now region) }
+{
+    match other {
+        RawOther::Member(input) => {
+            let kind = kind_of(alloc, !agree, input)?;
+            let part = decided_part(alloc, kind, region, marks)?;
+            Ok(part)
+        }
+        RawOther::Reason(reason) => Ok(unmarked(
+            alloc,
+            Kind::Undecided { reason: *reason },
+            region,
+        )),
+        RawOther::None => Ok(unmarked(alloc, Kind::Unexplored, region)),
+    }
+}
+
+/// Same where the versions agree, else Different with the input as the sample.
+pub(crate) fn kind_of(alloc: Global, agree: bool, input: &Input) -> Result<Kind, AllocError>
+    ensures { IfOk result (λ kind. kind ≡ claimed agree input.now) }
+{
+    if agree {
+        return Ok(Kind::Same);
+    }
+    Ok(Kind::Different {
+        sample: input.copy(alloc)?,
+    })
+}
+
+/// The most numbers of a proof, with the line that would come next: 1,000,000 of the log, and one line
+/// with a literal for each variable and a hint for each clause and line.
+const MOST_NUMBERS: u64 = 4_240_000;
+
+/// The numbers of the log that a proof has. There is no answer where the proof has too many, which no
+/// proof has that a search gives.
+fn proof_numbers(proof: &Proof) -> Option<u64>
+    ensures value { IfSome result (λ n. n ≡ proof_numbers_of proof.now) }
+    ensures few { IfSome result (λ n. (n ≤ MOST_NUMBERS) × (proof_length proof.now ≤ 4 + 4 * MOST_NUMBERS)) }
+{
+    match proof {
+        Proof::None => Some(0),
+        Proof::Log(log) => log_numbers(log, MOST_NUMBERS),
+        Proof::Spent { log, next } => {
+            let next = match next {
+                None => 0,
+                Some(line) => size_of(line),
+            };
+            if next > MOST_NUMBERS {
+                return None;
+            }
+            log_numbers(log, MOST_NUMBERS - next)
+        }
+    }
+}
+
+/// How many numbers it takes to write a log down, if they are at most so many.
+fn log_numbers(log: &Log, most: u64) -> Option<u64>
+    requires { most < 2 ^ 62 }
+    ensures { IfSome result (λ n. (n ≡ log_numbers_of log.now) × (n ≤ most)) }
+{
+    let mut sum = 0;
+    for line in log.lines() {
+        sum += size_of(line);
+        if sum > most {
+            return None;
+        }
+    }
+    Some(sum)
+}
+
+/// How many numbers it takes to write a line down.
+fn size_of(line: &Line) -> u64
+    ensures value { result ≡ line_numbers line.now }
+    ensures bound { result < 2 ^ 63 }
+{
+    line.clause().lits().len() as u64 + line.hints().len() as u64 + 2
+}
