@@ -1,15 +1,16 @@
 -- Calls that follow steps, one after the other.
-use Rattle.std.proofs.Common.{◌≡◌, ℕ, List, [], ◌∷◌, ◌++◌, take, Option, Some, None, Result, Ok, Err, ◌⊎◌, inl, inr, refl, sym, ap, ◌∙◌, subst, append-nil}
+use Rattle.std.proofs.Common.{◌≡◌, ℕ, Bool, true, false, List, [], ◌∷◌, ◌++◌, take, Option, Some, None, Result, Ok, Err, inl, inr, refl, sym, ap, ◌∙◌, subst, append-nil}
 use Rattle.std.specs.Io.KnownBytes.{append_known}
 use Rattle.prv_io.specs.Files.{ReadsInTurn}
 use Rattle.prv_io.specs.Sink.{TakesPart}
 use Rattle.prv_cli.specs.Steps.{Told, Trace, nothing, reading, writing, Step, Passes, ◌>>=◌, Shown, writes}
 use Rattle.prv_cli.specs.Readings.{IsRead, read_file}
 use Rattle.prv_cli.specs.Answers.{Follows, Performs}
+use Rattle.prv_cli.specs.Commands.{where_plain}
 use Rattle.prv_cli.specs.declared.status.Status.{Status}
 use Rattle.prv_cli.specs.declared.refusal.Who.{Who}
 use Rattle.prv_cli.specs.declared.refusal.Refusal.{Refusal}
-use Rattle.prv_cli.specs.declared.refusal.Refusal.TheVariants.{Write}
+use Rattle.prv_cli.specs.declared.refusal.Refusal.TheVariants.{Write, Later}
 
 -- reads in turn, and then more of them
 reads-more : {S : Type 0} (reads : S → List ℕ → S → Type 0) (a b c : S) (names more : List (List ℕ)) → ReadsInTurn reads a names b → ReadsInTurn reads b more c → ReadsInTurn reads a (names ++ more) c
@@ -20,6 +21,11 @@ reads-more reads a b c (name ∷ names) more (mid, first, rest) behind = (mid, f
 pub passes : {A B : Type 0} (first : Step A) (next : A → Step B) (told : Told) (trace : Trace) (answer : Result B Refusal) → Passes first next told trace answer → ◌>>=◌ first next told trace answer
 passes first next told trace (Ok value) p = p
 passes first next told trace (Err why) p = inr p
+
+-- a step that does nothing passes, and those behind it do nothing
+pub nothing-both : {A B : Type 0} (told : Told) (first : Step A) (next : A → Step B) (value : A) (answer : Result B Refusal) → first told nothing (Ok value) → next value told nothing answer → ◌>>=◌ first next told nothing answer
+nothing-both told first next value answer passed did =
+    passes first next told nothing answer (record { value = value; before = nothing; behind = nothing; trace_is = refl; passed = passed; answered = did })
 
 -- a step that does nothing
 pub follows-nothing : {S A : Type 0} (reads : S → List ℕ → S → Type 0) (told : Told) (a : S) (step : Step A) (answer : Result A Refusal) → step told nothing answer → Follows reads told a a step answer
@@ -95,3 +101,12 @@ wrote-all told shown status out new same took = (
 
 pub wrote-part : (told : Told) (shown : Shown) (out new : Option (List ℕ)) → TakesPart out new shown.text → Wrote told shown (Err Write) out new
 wrote-part told shown out new (count, fewer, took) = (writing (take count shown.text), inl (count, fewer, refl), refl, took)
+
+-- a step that is built for plain settings alone
+pub performs-plain : {S : Type 0} (reads : S → List ℕ → S → Type 0) (told : Told) (a b : S) (out new : Option (List ℕ)) (plain : Bool) (step : Step Status) (answer : Result Status Refusal) → plain ≡ true
+    → Performs reads told a b out new step answer → Performs reads told a b out new (where_plain plain step) answer
+performs-plain reads told a b out new plain step answer is h = subst (λ p. Performs reads told a b out new (where_plain p step) answer) (sym is) h
+
+pub performs-later : {S : Type 0} (reads : S → List ℕ → S → Type 0) (told : Told) (a : S) (out : Option (List ℕ)) (plain : Bool) (step : Step Status) → plain ≡ false → Performs reads told a a out out (where_plain plain step) (Err Later)
+performs-later reads told a out plain step is =
+    subst (λ p. Performs reads told a a out out (where_plain p step) (Err Later)) (sym is) (performs-nothing reads told a out (where_plain false step) (Err Later) (refl, refl))

@@ -1,3 +1,6 @@
+pub mod Alike
+pub mod AlikeEach
+pub mod Counted
 pub mod Following
 pub mod Numbers
 pub mod OneAnswer

@@ -1,5 +1,5 @@
 -- Where all files are told, each step does one thing and has one answer, but for faults and want of memory.
-use Rattle.std.proofs.Common.{◌≡◌, ◌≢◌, ◌⊎◌, inl, inr, ℕ, ◌<◌, ◌≤◌, List, [], ◌∷◌, ◌++◌, length, take, ℤ, Result, Ok, Err, refl, sym, ap, ◌∙◌, subst, arith}
+use Rattle.std.proofs.Common.{◌≡◌, ◌≢◌, ◌⊎◌, inl, inr, ℕ, ◌≤◌, List, length, ℤ, Result, Ok, Err, refl, sym, ap, ◌∙◌, subst, arith}
 use Rattle.prv_io.specs.Files.{Known, Absent, Holds, Unknown, MayHold, MayBeLonger}
 use Rattle.prv_model.specs.declared.limits.TheConstants.{MAX_FILE}
 use Rattle.prv_lex.specs.declared.error.LexWhy.TheVariants.{Long}
@@ -9,10 +9,9 @@ use Rattle.prv_version.specs.declared.error.FileRefusal.{FileRefusal}
 use Rattle.prv_version.specs.declared.error.FileRefusal.TheVariants as file
 use Rattle.prv_version.proofs.OneAnswer.{given-not_refused, refused-one}
 use Rattle.prv_version.proofs.OneVersion.{one-version}
-use Rattle.prv_cli.specs.Steps.{Told, Trace, nothing, reading, writing, ◌∙∙◌, Step, Passes, ◌>>=◌, ◌>>◌, answers, write, Shown, writes}
+use Rattle.prv_cli.specs.Steps.{Told, Trace, ◌∙∙◌, Step, Passes, ◌>>=◌, answers, write, Shown, writes}
 use Rattle.prv_cli.specs.Readings.{IsRead, read_file, GivesNone, version_of, version, FitsNot, fits, IsMemory}
 use Rattle.prv_cli.specs.Answers.{IsFree, Agree}
-use Rattle.prv_cli.specs.declared.status.Status.{Status}
 use Rattle.prv_cli.specs.declared.refusal.Who.{Who}
 use Rattle.prv_cli.specs.declared.refusal.Refusal.{Refusal}
 use Rattle.prv_cli.specs.declared.refusal.Refusal.TheVariants as refusal
@@ -183,7 +182,7 @@ version-refusal who bytes (refusal.Slice bound) h = absurd h
 version-refusal who bytes refusal.Read h = absurd h
 version-refusal who bytes refusal.Write h = absurd h
 
-single-version_of : (told : Told) (who : Who) (bytes : List ℕ) → Single told (version_of who bytes)
+pub single-version_of : (told : Told) (who : Who) (bytes : List ℕ) → Single told (version_of who bytes)
 single-version_of told who bytes = single-answers told (GivesVersion bytes) (GivesNone who bytes) (one-version bytes) apart refused
   where
     apart : (v : Version) (e : Refusal) → GivesVersion bytes v → GivesNone who bytes e → IsFree e

@@ -1,13 +1,11 @@
 -- Where all files are told, each command does one thing and has one answer, but for faults and want of memory.
-use Rattle.std.proofs.Common.{◌≡◌, ◌≢◌, ◌⊎◌, inl, inr, ℕ, List, ℤ, Result, refl, sym, ap, ◌∙◌, subst, arith}
+use Rattle.std.proofs.Common.{◌≡◌, ◌≢◌, ◌⊎◌, inl, inr, ℕ, List, ℤ, refl, sym, ap, ◌∙◌, subst, arith}
 use Rattle.std.proofs.Props.{props}
 use Rattle.prv_io.specs.Files.{Unknown}
 use Rattle.prv_model.specs.Programs.{IsPair}
-use Rattle.prv_model.specs.Comparison.{verdict}
 use Rattle.prv_model.specs.declared.program.Program.{Program}
 use Rattle.prv_model.specs.declared.program.Pair.{Pair}
 use Rattle.prv_model.specs.declared.entry.Entry.{Entry}
-use Rattle.prv_run.specs.Points.{point as point_entries}
 use Rattle.prv_line.specs.Commands.{Command, Run, Point, Slice, Explore, Live, Resume, Check, Gen}
 use Rattle.prv_line.specs.Readings.{Reads}
 use Rattle.prv_line.specs.Usages.{IsUsage}
@@ -19,23 +17,23 @@ use Rattle.prv_marks.proofs.PairLemmas.{pair_not_refused}
 use Rattle.prv_marks.proofs.PairLemmas as marks
 use Rattle.prv_text.specs.Reports.{point_report}
 use Rattle.prv_cli.specs.Statuses.{entries_status}
-use Rattle.prv_cli.specs.Steps.{Told, Trace, ◌>>=◌, Shown, writes, answers}
-use Rattle.prv_cli.specs.Readings.{version, fits, IsMemory}
-use Rattle.prv_cli.specs.Runs.{show_run, run}
-use Rattle.prv_cli.specs.Points.{Makes, MakesNone, pair_of, IsPoint, show_point, point}
+use Rattle.prv_cli.specs.Steps.{Told, Shown, writes}
+use Rattle.prv_cli.specs.Readings.{version, version_of, fits, IsMemory}
+use Rattle.prv_cli.specs.Runs.{run}
+use Rattle.prv_cli.specs.Pairings.{Makes, MakesNone, pair_of, pair_of_files, pair_of_texts}
+use Rattle.prv_cli.specs.Points.{IsPoint, point}
 use Rattle.prv_cli.specs.Slices.{ShowsSlice, PassesBound, ShowsNone, show_slice, slice}
-use Rattle.prv_cli.specs.Commands.{not_built, does, ReadsNone, command, says}
-use Rattle.prv_cli.specs.Answers.{IsFree}
-use Rattle.prv_cli.specs.declared.status.Status.{Status}
+use Rattle.prv_cli.specs.Commands.{not_built, does, ReadsNone, command}
+use Rattle.prv_cli.specs.Answers.{IsFree, Searches}
 use Rattle.prv_cli.specs.declared.refusal.Bound.{Bound}
 use Rattle.prv_cli.specs.declared.refusal.Bound.TheVariants.{Nodes, Literals}
 use Rattle.prv_cli.specs.declared.refusal.Refusal.{Refusal}
 use Rattle.prv_cli.specs.declared.refusal.Refusal.TheVariants as refusal
 use Rattle.prv_cli.specs.declared.refusal.Who.TheVariants.{Old, New, Only}
-use Rattle.prv_cli.proofs.OneAnswer.{Single, AgreeRefusals, single-then, single-answers, single-value, single-writes, single-version, single-fits}
+use Rattle.prv_cli.proofs.OneAnswer.{Single, AgreeRefusals, single-then, single-answers, single-value, single-writes, single-version, single-version_of, single-fits}
 
 -- each file holds some bytes or is absent, as far as is told
-abbrev AllTold : Told → Type 0
+abbrev pub AllTold : Told → Type 0
 AllTold told = (name : List ℕ) → told name ≢ Unknown
 
 single-run : (told : Told) (file : List ℕ) (input : List ℤ) → AllTold told → Single told (run file input)
@@ -56,9 +54,9 @@ same-pair a b c d m n k l e f g =
     (subst (λ (z : ℕ). (h : IsPair a.params c.params z) → pair-from a c m k ≡ pair-from a c z h) g
     (λ h. ap (λ j. pair-from a c m j) (one k h)))) l
 
-one-pair : (before after : Version) (a b : Pair) → Makes before after a → Makes before after b → a ≡ b
-one-pair before after a b x y =
-    same-pair a.before b.before a.after b.after a.turns b.turns a.kept b.kept (x.before_is ∙ sym y.before_is) (x.after_is ∙ sym y.after_is) (x.turns ∙ sym y.turns)
+one-pair : (turns : ℕ) (before after : Version) (a b : Pair) → Makes turns before after a → Makes turns before after b → a ≡ b
+one-pair turns before after a b x y =
+    same-pair a.before b.before a.after b.after a.turns b.turns a.kept b.kept (x.before_is ∙ sym y.before_is) (x.after_is ∙ sym y.after_is) (x.turns_are ∙ sym y.turns_are)
 
 abbrev Unpaired : Version → Version → Refusal → Type 0
 Unpaired before after e = (why : PairError) × (e ≡ refusal.Pair why) × IsRefused before after why
@@ -74,10 +72,10 @@ pair-refusal before after (refusal.Slice bound) h = absurd h
 pair-refusal before after refusal.Read h = absurd h
 pair-refusal before after refusal.Write h = absurd h
 
-single-pair : (told : Told) (before after : Version) → Single told (pair_of before after)
-single-pair told before after = single-answers told (Makes before after) (MakesNone before after) (one-pair before after) apart refused
+single-pair : (told : Told) (turns : ℕ) (before after : Version) → Single told (pair_of turns before after)
+single-pair told turns before after = single-answers told (Makes turns before after) (MakesNone before after) (one-pair turns before after) apart refused
   where
-    apart : (p : Pair) (e : Refusal) → Makes before after p → MakesNone before after e → IsFree e
+    apart : (p : Pair) (e : Refusal) → Makes turns before after p → MakesNone before after e → IsFree e
     apart p e makes h = let none = pair-refusal before after e h in absurd (pair_not_refused before after none.0 makes.made none.2)
 
     refused : (e f : Refusal) → MakesNone before after e → MakesNone before after f → AgreeRefusals e f
@@ -85,6 +83,18 @@ single-pair told before after = single-answers told (Makes before after) (MakesN
         let one = pair-refusal before after e x in
         let other = pair-refusal before after f y in
         inl (one.1 ∙ ap (λ (w : PairError). refusal.Pair w) (marks.one_refusal before after one.0 other.0 one.2 other.2) ∙ sym other.1)
+
+pub single-files : (told : Told) (turns : ℕ) (before after : List ℕ) → AllTold told → Single told (pair_of_files turns before after)
+single-files told turns before after all =
+    single-then told (version Old before) _ (single-version told Old before (all before)) (λ old.
+    single-then told (version New after) _ (single-version told New after (all after)) (λ new.
+    single-pair told turns old new))
+
+pub single-texts : (told : Told) (turns : ℕ) (before after : List ℕ) → Single told (pair_of_texts turns before after)
+single-texts told turns before after =
+    single-then told (version_of Old before) _ (single-version_of told Old before) (λ old.
+    single-then told (version_of New after) _ (single-version_of told New after) (λ new.
+    single-pair told turns old new))
 
 abbrev point-shown : Pair → List Entry → Shown
 point-shown pair entries = record { text = point_report pair.before.names entries; status = entries_status entries }
@@ -97,11 +107,9 @@ memory-free e is = subst (λ x. IsFree x) (sym is) tt
 
 single-point : (told : Told) (before after : List ℕ) (input : List ℤ) → AllTold told → Single told (point before after input)
 single-point told before after input all =
-    single-then told (version Old before) _ (single-version told Old before (all before)) (λ old.
-    single-then told (version New after) _ (single-version told New after (all after)) (λ new.
-    single-then told (pair_of old new) _ (single-pair told old new) (λ pair.
+    single-then told (pair_of_files 32 before after) _ (single-files told 32 before after all) (λ pair.
     single-then told (fits input pair.before.params) _ (single-fits told input pair.before.params) (λ _.
-    single-answers told (IsPoint pair input) IsMemory (one-point pair input) (λ a e x y. memory-free e y) (λ e f x y. inr (inl (memory-free e x)))))))
+    single-answers told (IsPoint pair input) IsMemory (one-point pair input) (λ a e x y. memory-free e y) (λ e f x y. inr (inl (memory-free e x)))))
 
 -- a bound that a slice passes, as a refusal
 abbrev Unshown : Program → List ℤ → Refusal → Type 0
@@ -153,18 +161,19 @@ single-slice told file input all =
     single-then told (fits input v.program.params) _ (single-fits told input v.program.params) (λ _.
     single-show_slice told v.program input))
 
-single-later : (told : Told) → Single told not_built
+pub single-later : (told : Told) → Single told not_built
 single-later told = single-answers told (λ _. ⊥) (λ why. why ≡ refusal.Later) (λ a b x y. absurd x) (λ a e x y. absurd x) (λ e f x y. inl (x ∙ sym y))
 
-single-does : (told : Told) (c : Command) → AllTold told → Single told (does c)
-single-does told (Run file input) all = single-then told (run file input) writes (single-run told file input all) (single-writes told)
-single-does told (Point before after input) all = single-then told (point before after input) writes (single-point told before after input all) (single-writes told)
-single-does told (Slice file input) all = single-then told (slice file input) writes (single-slice told file input all) (single-writes told)
-single-does told (Explore before after settings) all = single-later told
-single-does told (Live before after settings) all = single-later told
-single-does told (Resume journal lines settlements workers) all = single-later told
-single-does told (Check journal) all = single-later told
-single-does told (Gen number size) all = single-later told
+-- a command that doesn't search does one thing
+pub single-does : (told : Told) (c : Command) → AllTold told → (Searches c → ⊥) → Single told (does c)
+single-does told (Run file input) all never = single-then told (run file input) writes (single-run told file input all) (single-writes told)
+single-does told (Point before after input) all never = single-then told (point before after input) writes (single-point told before after input all) (single-writes told)
+single-does told (Slice file input) all never = single-then told (slice file input) writes (single-slice told file input all) (single-writes told)
+single-does told (Explore before after settings) all never = absurd (never tt)
+single-does told (Live before after settings) all never = single-later told
+single-does told (Resume journal lines settlements workers) all never = single-later told
+single-does told (Check journal) all never = single-later told
+single-does told (Gen number size) all never = absurd (never tt)
 
 abbrev Unread : List (List ℕ) → Refusal → Type 0
 Unread words e = IsFree e ⊎ ((word : ℕ) × (e ≡ refusal.Usage word) × IsUsage words word)
@@ -180,7 +189,7 @@ word-refusal words (refusal.Slice bound) h = absurd h
 word-refusal words refusal.Read h = absurd h
 word-refusal words refusal.Write h = absurd h
 
-single-command : (told : Told) (words : List (List ℕ)) → Single told (command words)
+pub single-command : (told : Told) (words : List (List ℕ)) → Single told (command words)
 single-command told words = single-answers told (λ c. Reads c words) (ReadsNone words) (one_reading words) apart refused
   where
     apart : (c : Command) (e : Refusal) → Reads c words → ReadsNone words e → IsFree e
@@ -197,6 +206,3 @@ single-command told words = single-answers told (λ c. Reads c words) (ReadsNone
         by (inl free) other = inr (inl free)
         by (inr same) (inl free) = inr (inr free)
         by (inr (j, same, is)) (inr (k, equal, too)) = inl (same ∙ ap (λ (n : ℕ). refusal.Usage n) (one_refusal Reads words j k is too) ∙ sym equal)
-
-pub single-says : (told : Told) (words : List (List ℕ)) → AllTold told → Single told (says words)
-single-says told words all = single-then told (command words) does (single-command told words) (λ c. single-does told c all)

@@ -13,8 +13,7 @@ use Rattle.prv_general.specs.Slices.{Slice, slice as slice_of, slice_named}
 use Rattle.prv_general.specs.Answers.{IsSlice}
 use Rattle.prv_general.specs.declared.slice.Slice as made
 use Rattle.prv_cli.specs.Steps.{Told, Shown, nothing}
-use Rattle.prv_cli.specs.Slices.{node_count, literal_count, slice_shown, ShowsSlice, PassesBound, ShowsNone, show_slice}
-use Rattle.prv_cli.specs.declared.refusal.Bound.TheVariants.{Nodes, Literals}
+use Rattle.prv_cli.specs.Slices.{node_count, literal_count, slice_shown, ShowsNone, show_slice}
 use Rattle.prv_cli.specs.declared.refusal.Refusal.{Refusal}
 use Rattle.prv_cli.specs.declared.refusal.Refusal.TheVariants.{Memory}
 

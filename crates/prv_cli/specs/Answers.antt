@@ -3,7 +3,11 @@ use Rattle.std.specs.Prelude.{◌≡◌, ℕ, List, Option, ◌⊎◌, ⊤, Resu
 use Rattle.std.specs.Io.KnownBytes.{append_known}
 use Rattle.prv_io.specs.Files.{ReadsInTurn}
 use Rattle.prv_io.specs.Sink.{Output, TookAll, TookPart}
-use Rattle.prv_cli.specs.Steps.{Told, Trace, Step, reading}
+use Rattle.prv_model.specs.declared.program.Pair.{Pair}
+use Rattle.prv_line.specs.Commands.{defaults, Command, Explore, Gen}
+use Rattle.prv_text.specs.Boards.{board_report, generated_report}
+use Rattle.prv_cli.specs.Steps.{Told, Trace, Step, Shown, reading, writing, ◌∙∙◌}
+use Rattle.prv_cli.specs.Explores.{plan_of, ShowsExploration}
 use Rattle.prv_cli.specs.Commands.{says}
 use Rattle.prv_cli.specs.Statuses.{status_number}
 use Rattle.prv_cli.specs.Refusals.{refusal_number, refusal_line}
@@ -69,3 +73,32 @@ IsFreeAnswer (Err why) = IsFree why
 -- two answers are one, and the same was done before them, unless one is a fault or want of memory
 abbrev pub Agree : {A : Type 0} → Trace → Result A Refusal → Trace → Result A Refusal → Type 0
 Agree trace answer other another = ((trace ≡ other) × (answer ≡ another)) ⊎ (IsFreeAnswer answer ⊎ IsFreeAnswer another)
+
+-- a command that searches for inputs and for logs
+abbrev pub Searches : Command → Type 0
+Searches (Explore before after settings) = ⊤
+Searches (Gen number size) = ⊤
+Searches _ = ⊥
+
+-- what a command that searches may show of a pair
+abbrev pub MayShow : Command → Pair → Shown → Type 0
+MayShow (Explore before after settings) pair shown = ShowsExploration board_report (plan_of settings) pair shown
+MayShow (Gen number size) pair shown = ShowsExploration (generated_report number size) (plan_of defaults) pair shown
+MayShow _ pair shown = ⊥
+
+-- two answers show explorations of one pair, and the same was done before they were written
+pub record AreExplorations (c : Command) (trace : Trace) (answer : Result Status Refusal) (other : Trace) (another : Result Status Refusal) : Type 0 where
+  pub pair : Pair
+  pub first : Shown
+  pub second : Shown
+  pub explored : MayShow c pair first
+  pub also_explored : MayShow c pair second
+  pub front : Trace
+  pub trace_is : trace ≡ front ∙∙ writing first.text
+  pub other_is : other ≡ front ∙∙ writing second.text
+  pub answer_is : answer ≡ Ok first.status
+  pub another_is : another ≡ Ok second.status
+
+-- two answers of a command are alike: they agree, or differ by what was found of one pair alone
+abbrev pub AreAlike : Command → Trace → Result Status Refusal → Trace → Result Status Refusal → Type 0
+AreAlike c trace answer other another = Agree trace answer other another ⊎ AreExplorations c trace answer other another

@@ -2,8 +2,11 @@ pub mod Refusals
 pub mod Statuses
 pub mod Steps
 pub mod Readings
+pub mod Pairings
 pub mod Runs
 pub mod Points
 pub mod Slices
+pub mod Explores
+pub mod Generates
 pub mod Commands
 pub mod Answers

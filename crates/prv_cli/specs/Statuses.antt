@@ -3,7 +3,9 @@ use Rattle.std.specs.Prelude.{ℕ, Bool, ◌||◌, List, if◌then◌else◌}
 use Rattle.std.specs.List.{list_any}
 use Rattle.prv_model.specs.declared.entry.Kind.{Kind}
 use Rattle.prv_model.specs.declared.entry.Entry.{Entry}
-use Rattle.prv_text.specs.Kinds.{is_different, is_beyond, is_open, is_undecided}
+use Rattle.prv_part.specs.declared.part.Part.{Part}
+use Rattle.prv_board.specs.Slots.{live_parts}
+use Rattle.prv_board.specs.Replays.{Replay, slots, is_different, is_beyond, is_unexplored, is_undecided}
 use Rattle.prv_cli.specs.declared.status.Status.{Status}
 use Rattle.prv_cli.specs.declared.status.Status.TheVariants.{Done, Different, Unsettled}
 
@@ -15,10 +17,20 @@ status_number Unsettled = 2
 
 -- something is left to be found in an entry of this kind
 abbrev pub is_unsettled : Kind → Bool
-is_unsettled kind = is_beyond kind || (is_open kind || is_undecided kind)
+is_unsettled kind = is_beyond kind || (is_unexplored kind || is_undecided kind)
 
 -- Different where an entry is, else Unsettled where one is Beyond, open or undecided, and else Done
 abbrev pub entries_status : List Entry → Status
 entries_status entries =
     if list_any (λ e. is_different e.kind) entries then Different
     else (if list_any (λ e. is_unsettled e.kind) entries then Unsettled else Done)
+
+-- so of some parts
+abbrev pub parts_status : List Part → Status
+parts_status parts =
+    if list_any (λ p. is_different p.kind) parts then Different
+    else (if list_any (λ p. is_unsettled p.kind) parts then Unsettled else Done)
+
+-- the status of a board is that of its live entries
+abbrev pub board_status : Replay → Status
+board_status b = parts_status (live_parts (slots b))

@@ -1,5 +1,5 @@
 -- What a command does, put together from steps in the order in which they may be refused.
-use Rattle.std.specs.Prelude.{◌≡◌, ℕ, ◌<◌, List, [], ◌∷◌, ◌++◌, length, take, ◌⊎◌, ⊤, Result, Ok, Err}
+use Rattle.std.specs.Prelude.{◌≡◌, ℕ, ◌<◌, List, [], ◌++◌, length, take, ◌⊎◌, Result, Ok, Err}
 use Rattle.prv_io.specs.Files.{Known}
 use Rattle.prv_cli.specs.declared.status.Status.{Status}
 use Rattle.prv_cli.specs.declared.refusal.Refusal.{Refusal}

@@ -2,8 +2,12 @@
 #![tactic(auto)]
 
 mod command;
+mod explore;
+mod generate;
 mod laws;
+mod pairing;
 mod point;
+mod progress;
 mod read;
 mod refusal;
 mod refusal_line;
@@ -15,6 +19,7 @@ mod status;
 mod tests;
 mod top;
 
+use progress::TerminalProgress;
 use prv_io::{HostFiles, HostSink};
 use refusal::Refusal;
 use std::process::ExitCode;
@@ -33,7 +38,15 @@ fn main(rt: HostRuntime) -> ExitCode {
     };
     let mut files = HostFiles::new(&rt);
     let mut out = HostSink::new(rt.stdout());
-    let status = plain(rt.alloc(), texts.as_slice(), &mut files, &mut out, &mut err);
+    let mut progress = TerminalProgress::new(rt.stderr(), &rt);
+    let status = plain(
+        rt.alloc(),
+        texts.as_slice(),
+        &mut files,
+        &mut out,
+        &mut err,
+        &mut progress,
+    );
     ExitCode::from(status)
 }
 

@@ -2,17 +2,16 @@
 ghost use Rattle.std.specs.Prelude.{◌≡◌, IsErrOf, length};
 ghost use Rattle.prv_io.specs.Faults.{Rose};
 ghost use Rattle.prv_cli.specs.Steps.{Told, nothing};
-ghost use Rattle.prv_cli.specs.Points.{point, pair_of as pair_is, show_point as show_point_is};
+ghost use Rattle.prv_cli.specs.Points.{point, show_point as show_point_is};
 ghost use Rattle.prv_cli.specs.Answers.{Follows, UnlessRead};
 
-use crate::read::{fit, load};
-use crate::refusal::{Refusal, Who};
+use crate::pairing::load_pair;
+use crate::read::fit;
+use crate::refusal::Refusal;
 use crate::report::Report;
 use crate::status::entries_status;
 use prv_io::Files;
-use prv_marks::pair;
 use prv_model::{Input, Pair};
-use prv_names::Version;
 use prv_run::point_entries;
 use prv_text::report_entries;
 use std::alloc::Global;
@@ -32,22 +31,9 @@ pub fn compare_at<F: Files>(
     ensures no_read_fault { UnlessRead result (F.faults files.new ≡ F.faults files.old) }
     ensures done { Follows F.reads (F.known files.old) files.old files.new (point before.now after.now input.now) result }
 {
-    let old = load(alloc, files, before, Who::Old)?;
-    let new = load(alloc, files, after, Who::New)?;
-    let pair = pair_of(old, new)?;
+    let pair = load_pair(alloc, files, before, after, TURNS)?;
     fit(input, pair.before.params)?;
     show_point(alloc, &pair, input)
-}
-
-/// The pair of two versions.
-fn pair_of(before: Version, after: Version) -> Result<Pair, Refusal>
-    ensures paired { (told : Told) → pair_is before after told nothing result }
-    ensures no_read { IsErrOf result Refusal.Read → ⊥ }
-{
-    match pair(before, after, TURNS) {
-        Ok(pair) => Ok(pair),
-        Err(why) => Err(Refusal::Pair(why)),
-    }
 }
 
 /// The report of a pair at an input.

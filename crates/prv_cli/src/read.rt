@@ -44,9 +44,10 @@ pub fn load<F: Files>(
 }
 
 /// The version that the bytes of a file give.
-fn version_of(alloc: Global, bytes: &[u8], who: Who) -> Result<Version, Refusal>
+pub fn version_of(alloc: Global, bytes: &[u8], who: Who) -> Result<Version, Refusal>
     ensures given { (told : Told) → version_is who bytes.now told nothing result }
     ensures no_read { IsErrOf result Refusal.Read → ⊥ }
+    ensures no_write { IsErrOf result Refusal.Write → ⊥ }
 {
     match read_version(alloc, bytes) {
         Ok(version) => Ok(version),

@@ -105,7 +105,7 @@ fn push_pair_error(line: &mut Line, why: PairError)
 }
 
 /// Writes a number behind a label.
-fn push_labelled<I: Integer>(line: &mut Line, label: &str, number: I)
+pub fn push_labelled<I: Integer>(line: &mut Line, label: &str, number: I)
     requires { array_string_len line.old + length label.now ≤ 120 }
     ensures text { line.new.bytes ≡ line.old.bytes ++ (label.now ++ I.text number) }
     ensures short { array_string_len line.new ≤ array_string_len line.old + length label.now + 40 }

@@ -1,9 +1,10 @@
 //! The statuses under which something was shown.
 ghost use Rattle.std.specs.Prelude.{◌≡◌};
 ghost use Rattle.std.specs.List.{list_any};
-ghost use Rattle.prv_text.specs.Kinds.{is_different as kind_is_different};
-ghost use Rattle.prv_cli.specs.Statuses.{status_number, is_unsettled as kind_is_unsettled, entries_status as status_is};
+ghost use Rattle.prv_board.specs.Replays.{is_different as kind_is_different};
+ghost use Rattle.prv_cli.specs.Statuses.{status_number, is_unsettled as kind_is_unsettled, entries_status as status_is, board_status as board_status_is};
 
+use prv_board::Board;
 use prv_model::{Entry, Kind};
 
 /// What the program's end says of what was shown.
@@ -37,6 +38,24 @@ pub fn entries_status(entries: &[Entry]) -> Status
     if has_different(entries) {
         Status::Different
     } else if has_unsettled(entries) {
+        Status::Unsettled
+    } else {
+        Status::Done
+    }
+}
+
+/// The status of the live entries of a board.
+pub fn board_status(board: &Board) -> Status
+    ensures { result ≡ board_status_is board.now.replay }
+{
+    let counts = board.counts();
+    if counts.different > 0 {
+        Status::Different
+    } else if counts.beyond > 0 {
+        Status::Unsettled
+    } else if counts.unexplored > 0 {
+        Status::Unsettled
+    } else if counts.undecided > 0 {
         Status::Unsettled
     } else {
         Status::Done

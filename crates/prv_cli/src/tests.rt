@@ -1,4 +1,5 @@
 use crate::top::plain;
+use prv_explore::Quiet;
 use prv_io::{MemFile, MemFiles, MemSink};
 use std::alloc::Global;
 use std::test::Fail;
@@ -57,7 +58,14 @@ fn run(
     let mut files = MemFiles::new(both, Vec::from_slice(alloc, faults.reads)?);
     let mut out = MemSink::new(alloc, faults.out_room, Vec::new(alloc))?;
     let mut err = MemSink::new(alloc, faults.err_room, Vec::new(alloc))?;
-    let status = plain(alloc, words.as_slice(), &mut files, &mut out, &mut err);
+    let status = plain(
+        alloc,
+        words.as_slice(),
+        &mut files,
+        &mut out,
+        &mut err,
+        &mut Quiet,
+    );
     Ok(Ran {
         status,
         files,

@@ -8,6 +8,7 @@ ghost use Rattle.prv_cli.specs.Answers.{Answered, IsTold};
 use crate::command::perform_words;
 use crate::refusal::Refusal;
 use crate::refusal_line::line_of;
+use prv_explore::Progress;
 use prv_io::{Files, Sink, write_all};
 use std::alloc::Global;
 
@@ -18,13 +19,14 @@ use std::alloc::Global;
 /// or ask for a command that isn't built yet. 4: a file is refused, the versions make no pair, the input has
 /// another number of words than the program has parameters, or the slice passes a bound. 5: a file couldn't be
 /// read. 6: what is shown couldn't be written. 9: out of memory. Under 3 and above a line goes to `err`, and a
-/// failure of `err` changes nothing.
-pub fn plain<F: Files, O: Sink, E: Sink>(
+/// failure of `err` changes nothing. `progress` is told how far an exploration is.
+pub fn plain<F: Files, O: Sink, E: Sink, P: Progress>(
     alloc: Global,
     words: &[&str],
     files: &mut F,
     out: &mut O,
     err: &mut E,
+    progress: &mut P,
 ) -> u8
     // The words do this, to these files and outputs, and nothing else.
     ensures answered { Answered F.reads (F.known files.old) (texts words.now) files.old files.new (O.taken out.old) (O.taken out.new)
@@ -36,7 +38,7 @@ pub fn plain<F: Files, O: Sink, E: Sink>(
     ensures write_fault { result ≡ 6 → Rose (O.faults out.old) (O.faults out.new) }
     ensures no_write_fault { result ≢ 6 → O.faults out.new ≡ O.faults out.old }
 {
-    match perform_words(alloc, words, files, out) {
+    match perform_words(alloc, words, files, out, progress) {
         Ok(status) => status.number(),
         Err(refusal) => refuse(err, refusal),
     }

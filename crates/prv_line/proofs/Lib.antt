@@ -12,3 +12,4 @@ pub mod ResumeLemmas
 pub mod AnswerLemmas
 pub mod Decisions
 pub mod Existence
+pub mod RangeLemmas

@@ -1,6 +1,7 @@
 pub mod Texts
 pub mod Commands
 pub mod Options
+pub mod Ranges
 pub mod Readings
 pub mod Usages
 pub mod Views

@@ -3,6 +3,7 @@ ghost use Rattle.std.specs.Prelude.{◌≡◌, ℕ, ◌∷◌, codes, IfOk, IsEr
 ghost use Rattle.prv_line.specs.Answers.{UnlessMemory, IsCommand};
 ghost use Rattle.prv_line.specs.Steps.{IsAnswer};
 ghost use Rattle.prv_line.specs.Commands.{Command as CommandIs};
+ghost use Rattle.prv_line.specs.Ranges.{IsInRange};
 ghost use Rattle.prv_line.specs.Readings.{Reads};
 ghost use Rattle.prv_line.specs.Usages.{IsUsage};
 ghost use Rattle.prv_line.specs.Views.{command_of, texts};
@@ -20,6 +21,7 @@ use std::alloc::Global;
 pub fn read_words<'a>(alloc: Global, words: &[&'a str]) -> Result<Command<'a>, LineError>
     ensures reads { IfOk result (λ found. Reads (command_of found) (texts words.now)) }
     ensures refuses { (word : ℕ) → IsErrOf result (LineError.Usage word) → IsUsage (texts words.now) word }
+    ensures in_range { IfOk result (λ found. IsInRange (command_of found)) }
 
     // Both hold the other way round too, unless memory runs out.
     ensures found { (c : CommandIs) → Reads c (texts words.now) → UnlessMemory result (IsCommand result c) }

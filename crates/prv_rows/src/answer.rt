@@ -2,6 +2,9 @@ ghost use Rattle.std.specs.Prelude.{◌<◌, length};
 
 use crate::expansion::expanded;
 use crate::refusal::Refusal;
+use crate::settlements::{
+    board_answer, capped_answer, find_answer, parent_answer, path_answer, settle_answer,
+};
 use crate::stages::{chosen_of, pair_of, run_of, terms_of, trace_of, tree_of, version_of};
 use crate::terms::show_term;
 use crate::tokens::{show_bytes, show_skeleton, show_tokens};
@@ -39,6 +42,12 @@ pub fn answer(alloc: Global, row: &str) -> Result<String, Refusal> {
         "terms" => terms_answer(alloc, text),
         "reach" => reach_answer(alloc, text),
         "words" => words_answer(alloc, text),
+        "settle" => settle_answer(alloc, text),
+        "board" => board_answer(alloc, text),
+        "capped" => capped_answer(alloc, text),
+        "find" => find_answer(alloc, text),
+        "path" => path_answer(alloc, text),
+        "parent" => parent_answer(alloc, text),
         _ => Err(Refusal::Row),
     }
 }

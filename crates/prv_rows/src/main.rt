@@ -2,8 +2,10 @@
 #![tactic(auto)]
 
 mod answer;
+mod boards;
 mod expansion;
 mod refusal;
+mod settlements;
 mod stages;
 mod terms;
 mod tokens;

@@ -1,9 +1,11 @@
+use prv_board::ApplyError;
 use prv_lex::LexError;
 use prv_line::LineError;
 use prv_marks::PairError;
 use prv_names::NameError;
 use prv_parse::ParseError;
 use prv_pool::PoolError;
+use prv_settle::SettleAtError;
 use std::alloc::AllocError;
 use std::num::ParseIntError;
 use thiserror::Error;
@@ -23,6 +25,10 @@ pub enum Refusal {
     Line(#[from] LineError),
     #[error(transparent)]
     Pool(#[from] PoolError),
+    #[error(transparent)]
+    Settle(#[from] SettleAtError),
+    #[error(transparent)]
+    Apply(#[from] ApplyError),
     #[error(transparent)]
     Number(#[from] ParseIntError),
     #[error("no such row")]

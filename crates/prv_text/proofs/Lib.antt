@@ -2,3 +2,5 @@ pub mod Capped
 pub mod Spelling
 pub mod Writing
 pub mod Mapped
+pub mod Counting
+pub mod Live

@@ -1,5 +1,5 @@
 -- How the text of a node goes on, piece by piece.
-use Rattle.std.proofs.Common.{◌≡◌, ℕ, ◌+◌, ◌-◌, ◌*◌, ◌<◌, ◌≤◌, Bool, true, false, List, [], ◌∷◌, ◌++◌, length, take, fold, refl, sym, ap, ◌∙◌, codes, arith, append_assoc, append-nil, if◌then◌else◌, ℤ, Result, Ok, Err}
+use Rattle.std.proofs.Common.{◌≡◌, ℕ, ◌<◌, ◌≤◌, true, false, List, [], ◌∷◌, ◌++◌, length, take, fold, sym, ap, ◌∙◌, codes, arith, append_assoc, append-nil, if◌then◌else◌, ℤ, Result, Ok, Err}
 use Rattle.std.specs.Prelude.{OnOk, is_ok}
 use Rattle.std.specs.Fmt.{signed_decimal}
 use Rattle.std.specs.List.{AllByRecursion}
@@ -15,7 +15,7 @@ use Rattle.prv_pool.specs.declared.node.Node.TheVariants as node
 use Rattle.prv_text.proofs.Capped.{take_again}
 use Rattle.prv_text.proofs.Spelling.{spelled-Param, spelled-Num, spelled-Op, spelled-Pick, operand-compound, operand-simple}
 use Rattle.prv_text.specs.Terms.{Spelled, operand, between, name_of, spelled}
-use Rattle.prv_text.specs.Waiting.{piece_text, waiting_text, IsWithin, left, is_compound, pieces_of, Goes}
+use Rattle.prv_text.specs.Waiting.{piece_text, waiting_text, IsWithin, is_compound, pieces_of, Goes}
 use Rattle.prv_text.specs.declared.node.Piece.{Piece}
 use Rattle.prv_text.specs.declared.node.Piece.TheVariants.{Operand, Between, Chosen, Other, Close}
 

@@ -10,13 +10,17 @@ use Rattle.prv_model.specs.declared.entry.Entry.{Entry}
 use Rattle.prv_text.specs.Lines.{line, listed}
 use Rattle.prv_text.specs.Terms.{literal_text}
 
--- what stands behind the first 32 literals of a condition
-abbrev pub more_text : List Term → List ℕ
-more_text terms = if nat_le (length terms) 32 then [] else codes " ; .."
+-- what stands behind the first 32 of so many literals
+abbrev pub more_text : ℕ → List ℕ
+more_text count = if nat_le count 32 then [] else codes " ; .."
 
--- the condition of a region: its first 32 literals
+-- the first 32 of some literals, by the text of each
+abbrev pub joined : {A : Type 0} → (A → List ℕ) → List A → List ℕ
+joined text literals = if length literals == 0 then codes "true" else listed text (codes " ; ") (take 32 literals) ++ more_text (length literals)
+
+-- the condition of a region
 abbrev pub condition : List (List ℕ) → List Term → List ℕ
-condition names terms = if length terms == 0 then codes "true" else listed (literal_text names) (codes " ; ") (take 32 terms) ++ more_text terms
+condition names terms = joined (literal_text names) terms
 
 -- marks, or the word for no marks
 abbrev pub marks_text : List ℕ → List ℕ

@@ -1,8 +1,9 @@
 pub mod Lines
 pub mod Terms
 pub mod Waiting
-pub mod Kinds
 pub mod Entries
 pub mod Reports
+pub mod Ends
+pub mod Boards
 pub mod Outcomes
 pub mod Slices

@@ -3,7 +3,7 @@ ghost use Rattle.std.specs.Prelude.{◌≡◌, ◌++◌, take, OnOk, codes, deci
 ghost use Rattle.std.specs.Fmt.{signed_decimal};
 ghost use Rattle.prv_text.specs.Lines.{listed};
 ghost use Rattle.prv_text.specs.Terms.{literal_text};
-ghost use Rattle.prv_text.specs.Entries.{more_text, condition, marks_text, words_text, reason_text, kind_text, entry_line};
+ghost use Rattle.prv_text.specs.Entries.{more_text, joined, condition, marks_text, words_text, reason_text, kind_text, entry_line};
 
 use crate::number::push_number;
 use crate::term::push_literal;
@@ -26,7 +26,8 @@ pub fn push_entry(out: &mut Vec<u8>, names: &[Name], entry: &Entry) -> Result<()
     Ok(())
 }
 
-fn push_kind(out: &mut Vec<u8>, kind: &Kind, marks: &[u8]) -> Result<(), AllocError>
+/// Writes a claim, with the marks of its entry.
+pub(crate) fn push_kind(out: &mut Vec<u8>, kind: &Kind, marks: &[u8]) -> Result<(), AllocError>
     ensures { OnOk result (out.new.items ≡ out.old.items ++ kind_text kind.now marks.now) }
 {
     match kind {
@@ -85,27 +86,27 @@ fn push_condition(out: &mut Vec<u8>, names: &[Name], terms: &[Term]) -> Result<(
         out.extend_from_slice(b"true")?;
         return Ok(());
     }
-    push_literals(out, names, first_terms(terms))?;
-    push_more(out, terms)?;
+    push_literals(out, names, first_shown(terms))?;
+    push_more(out, terms.len())?;
     Ok(())
 }
 
 /// The literals of a condition that are shown.
-fn first_terms(terms: &[Term]) -> &[Term]
-    ensures { result.now ≡ take 32 terms.now }
+pub(crate) fn first_shown<T>(literals: &[T]) -> &[T]
+    ensures { result.now ≡ take 32 literals.now }
 {
-    if terms.len() <= SHOWN_LITERALS {
-        terms
+    if literals.len() <= SHOWN_LITERALS {
+        literals
     } else {
-        terms.split_at(SHOWN_LITERALS).0
+        literals.split_at(SHOWN_LITERALS).0
     }
 }
 
-/// Writes what stands behind the literals that are shown, where there are more.
-fn push_more(out: &mut Vec<u8>, terms: &[Term]) -> Result<(), AllocError>
-    ensures { OnOk result (out.new.items ≡ out.old.items ++ more_text terms.now) }
+/// Writes what stands behind the first of so many literals, where there are more.
+pub(crate) fn push_more(out: &mut Vec<u8>, count: usize) -> Result<(), AllocError>
+    ensures { OnOk result (out.new.items ≡ out.old.items ++ more_text count) }
 {
-    if terms.len() > SHOWN_LITERALS {
+    if count > SHOWN_LITERALS {
         out.extend_from_slice(b" ; ..")?;
     }
     Ok(())

@@ -4,11 +4,14 @@
 //! gigabytes. Each text is a function of `specs/`, and each call gives just that text.
 #![tactic(auto)]
 
+mod board;
 mod counts;
 mod entry;
+mod last;
 mod node;
 mod number;
 mod outcome;
+mod part;
 mod pieces;
 mod reports;
 mod slice;
@@ -16,11 +19,13 @@ mod term;
 #[cfg(test)]
 mod tests;
 
+pub use board::{report, report_generated};
 pub use counts::push_counts;
 pub use entry::{push_entry, push_marks};
+pub use last::{Ended, Last};
 pub use node::push_node;
 pub use number::push_number;
 pub use outcome::outcome_text;
-pub use reports::{push_entries, report, report_entries};
+pub use reports::report_entries;
 pub use slice::slice_text;
 pub use term::{push_literal, push_term};

@@ -1,15 +1,15 @@
 //! The report of a list of entries.
 ghost use Rattle.std.specs.Prelude.{◌≡◌, ◌++◌, length, IfOk, OnOk, codes, decimal, flat_map};
 ghost use Rattle.prv_text.specs.Entries.{entry_line};
-ghost use Rattle.prv_text.specs.Reports.{report_text, point_report, counts_line};
+ghost use Rattle.prv_text.specs.Reports.{point_report, regions_text};
 
-use crate::counts::push_counts;
+use crate::counts::push_entry_counts;
 use crate::entry::push_entry;
 use crate::number::push_number;
 use prv_model::{Entry, Name};
 use std::alloc::{AllocError, Global};
 
-/// The report of the entries of a point, whose last line is `end point`.
+/// The report of the entries of a point: their count, a line for each, the counts by kind, and a last line.
 ///
 /// `names` are the names of the parameters.
 pub fn report_entries(
@@ -19,33 +19,26 @@ pub fn report_entries(
 ) -> Result<Vec<u8>, AllocError>
     ensures { IfOk result (λ text. text.items ≡ point_report names.now entries.now) }
 {
-    report(alloc, names, entries, b"end point")
-}
-
-/// The report of some entries: their count, a line for each, the counts by kind, and a last line.
-///
-/// `names` are the names of the parameters.
-pub fn report(
-    alloc: Global,
-    names: &[Name],
-    entries: &[Entry],
-    last: &[u8],
-) -> Result<Vec<u8>, AllocError>
-    ensures { IfOk result (λ text. text.items ≡ report_text names.now entries.now last.now) }
-{
     let mut out = Vec::new(alloc);
-    out.extend_from_slice(b"regions ")?;
-    push_number(&mut out, entries.len())?;
-    out.push(b'\n')?;
-    push_entries(&mut out, names, entries)?;
-    push_counts(&mut out, entries)?;
-    out.extend_from_slice(last)?;
-    out.push(b'\n')?;
+    push_numbered(&mut out, names, entries)?;
+    push_entry_counts(&mut out, entries)?;
+    out.extend_from_slice(b"end point\n")?;
     Ok(out)
 }
 
+/// Writes the count of some entries, and a line for each.
+fn push_numbered(out: &mut Vec<u8>, names: &[Name], entries: &[Entry]) -> Result<(), AllocError>
+    ensures { OnOk result (out.new.items ≡ out.old.items ++ regions_text names.now entries.now) }
+{
+    out.extend_from_slice(b"regions ")?;
+    push_number(out, entries.len())?;
+    out.push(b'\n')?;
+    push_entries(out, names, entries)?;
+    Ok(())
+}
+
 /// Writes a line for each entry.
-pub fn push_entries(out: &mut Vec<u8>, names: &[Name], entries: &[Entry]) -> Result<(), AllocError>
+fn push_entries(out: &mut Vec<u8>, names: &[Name], entries: &[Entry]) -> Result<(), AllocError>
     ensures { OnOk result (out.new.items ≡ out.old.items ++ flat_map (entry_line names.now) entries.now) }
 {
     for entry in entries {

@@ -1,7 +1,16 @@
+ghost use Rattle.std.specs.Prelude.{◌≡◌, [], IfOk, IfSome};
+
+use crate::board::{report, report_generated};
 use crate::entry::push_entry;
+use crate::last::{Ended, Last};
 use crate::term::push_literal;
-use prv_model::{Entry, Input, Kind, Name, Reason, Term, TermOp};
+use prv_board::Board;
+use prv_model::{Entry, Expr, Input, Kind, Name, Pair, Program, Reason, Stmt, Term, TermOp};
+use prv_part::Caps;
+use prv_pool::{Cond, Pool, Region};
 use sqlite_items::{Boxed, Items};
+use std::alloc::{AllocError, Global};
+use std::sync::Arc;
 use std::test::Fail;
 
 /// Names of 1, 63, 13 and 14 bytes.
@@ -177,5 +186,73 @@ fn conditions(rt: HostRuntime) -> Result<(), Fail> {
         let got = line(&rt, 5, Kind::Unexplored, &[], literals)?;
         assert_eq!(rt; got.as_slice(), want.as_slice());
     }
+    Ok(())
+}
+
+/// `int main(int a) { return n; }`.
+fn program(alloc: Global, n: i32) -> Result<Option<Program>, AllocError>
+    ensures { IfOk result (λ p. IfSome p (λ program. program.params ≡ 1)) }
+{
+    let mut names = Items::new(alloc);
+    names.push(Name::new(alloc, b"a")?)?;
+    let mut body = Items::new(alloc);
+    body.push(Stmt::Return(Expr::Num(n)))?;
+    Ok(Program::new(1, names, body))
+}
+
+/// A pair of two programs that return another number.
+fn pair(alloc: Global) -> Result<Arc<Pair>, Fail> {
+    match (program(alloc, 1)?, program(alloc, 2)?) {
+        (Some(before), Some(after)) => {
+            let pair = Pair {
+                before,
+                after,
+                turns: 4,
+            };
+            Ok(Arc::new(alloc, pair)?)
+        }
+        _ => Err(Fail::from(AllocError)),
+    }
+}
+
+/// The region of all inputs.
+fn everything(alloc: Global) -> Result<Region, Fail>
+    ensures { IfOk result (λ region. region ≡ []) }
+{
+    let roots = Arc::new(alloc, Vec::new(alloc))?;
+    let pool = Arc::new(alloc, Pool::new(alloc, 1))?;
+    Ok(Region::new(pool, Cond::new(roots)))
+}
+
+/// A board of all inputs to which nothing was applied.
+fn board(alloc: Global) -> Result<Board, Fail> {
+    let caps = Caps {
+        entries: 9,
+        numbers: 9,
+        literals: 9,
+    };
+    let space = everything(alloc)?;
+    Ok(Board::new(alloc, pair(alloc)?, space, caps)?)
+}
+
+/// Both reports of a board, and three last lines.
+#[test]
+fn boards(rt: HostRuntime) -> Result<(), Fail> {
+    let alloc = rt.alloc();
+    let board = board(alloc)?;
+    let full = Last::Ended(Ended::Full {
+        entries: 3,
+        numbers: 5_000_000_000,
+        literals: 0,
+    });
+    assert_eq!(rt;
+        report(alloc, &board, &full)?.as_slice(),
+        b"regions 1\n0 open: true\nsame 0 different 0 empty 0 beyond 0 open 1 undecided 0\nend full 3 5000000000 0\n".as_slice()
+    );
+    let checked = Last::Checked { records: 12 };
+    assert_eq!(rt;
+        report_generated(alloc, 7, 2, &board, &checked)?.as_slice(),
+        b"gen 7 2 settlements 0\nsame 0 different 0 empty 0 beyond 0 open 1 undecided 0\nend checked 12\n".as_slice()
+    );
     Ok(())
 }

@@ -1,7 +1,7 @@
-use Rattle.std.proofs.Common.{◌≡◌, ◌∷◌, Ok, Err, inl, ap, refl, sym, ◌∙◌}
+use Rattle.std.proofs.Common.{Err, inl, refl}
 use Rattle.prv_line.specs.Views.{command_of, texts}
 use Rattle.prv_cli.specs.Commands.{does, command}
-use Rattle.prv_cli.specs.declared.refusal.Refusal.TheVariants.{Usage, Memory}
+use Rattle.prv_cli.specs.declared.refusal.Refusal.TheVariants.{Memory}
 use Rattle.prv_cli.specs.Commands.{says}
 use Rattle.prv_cli.proofs.Following.{performs-nothing, performs-behind}
 use Rattle.prv_cli.proofs.command.perform_words.Goals as goal

@@ -1,4 +1,4 @@
-use Rattle.std.proofs.Common.{◌≡◌, refl}
+use Rattle.std.proofs.Common.{refl}
 use Rattle.prv_cli.proofs.point.show_point.Goals as goal
 
 pub returns-clause-shown : goal.returns-clause-shown

@@ -1,4 +1,4 @@
-use Rattle.std.proofs.Common.{◌≡◌, Ok, Err, ap, subst, refl}
+use Rattle.std.proofs.Common.{Ok, Err, ap, subst, refl}
 use Rattle.prv_model.specs.declared.limits.TheConstants.{MAX_FILE}
 use Rattle.prv_lex.specs.declared.error.LexWhy.TheVariants.{Long}
 use Rattle.prv_version.specs.declared.error.FileRefusal.TheVariants.{Lex}

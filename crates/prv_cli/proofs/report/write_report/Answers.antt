@@ -1,4 +1,4 @@
-use Rattle.std.proofs.Common.{◌≡◌, List, ℕ, ap, ◌∙◌, subst}
+use Rattle.std.proofs.Common.{List, ℕ, ap, ◌∙◌, subst}
 use Rattle.std.specs.Io.KnownBytes.{append_known}
 use Rattle.prv_io.specs.Sink.{TakesPart}
 use Rattle.prv_cli.specs.Steps.{Shown}

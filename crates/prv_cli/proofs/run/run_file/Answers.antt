@@ -1,7 +1,7 @@
-use Rattle.std.proofs.Common.{◌≡◌, Err, Ok, List, ℤ}
+use Rattle.std.proofs.Common.{Err, Ok, List, ℤ}
 use Rattle.std.proofs.lemmas.Result.{err_from_is_err_and}
 use Rattle.prv_names.specs.declared.version.Version.{Version}
-use Rattle.prv_cli.specs.Steps.{Step, Shown, ◌>>=◌, ◌>>◌}
+use Rattle.prv_cli.specs.Steps.{Step, Shown, ◌>>◌}
 use Rattle.prv_cli.specs.Readings.{version, fits}
 use Rattle.prv_cli.specs.Runs.{show_run}
 use Rattle.prv_cli.specs.declared.refusal.Who.TheVariants.{Only}

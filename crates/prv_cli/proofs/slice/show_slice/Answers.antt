@@ -1,4 +1,3 @@
-use Rattle.std.proofs.Common.{◌≡◌}
 use Rattle.prv_general.specs.Slices.{slice as slice_of}
 use Rattle.prv_cli.proofs.Standing.{all-within, terms_of, slice-stands, nodes-within, shows-within}
 use Rattle.prv_cli.proofs.slice.show_slice.Goals as goal

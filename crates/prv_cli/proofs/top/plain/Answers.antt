@@ -1,4 +1,4 @@
-use Rattle.std.proofs.Common.{◌≡◌, ap, sym, ◌∙◌, Err}
+use Rattle.std.proofs.Common.{ap, sym, ◌∙◌, Err}
 use Rattle.prv_cli.specs.Refusals.{refusal_number}
 use Rattle.prv_cli.specs.declared.status.Status.{Status}
 use Rattle.prv_cli.proofs.Numbers.{five-is-read, six-is-write, no-read, no-write}

@@ -1,4 +1,4 @@
-use Rattle.std.proofs.Common.{◌++◌, List, ℕ, codes}
+use Rattle.std.proofs.Common.{◌++◌, codes}
 use Rattle.prv_text.specs.Entries.{marks_text, words_text}
 use Rattle.prv_text.proofs.Capped.{one_more_piece}
 use Rattle.prv_text.proofs.entry.push_kind.Goals as goal

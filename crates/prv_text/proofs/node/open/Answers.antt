@@ -1,9 +1,8 @@
-use Rattle.std.proofs.Common.{rules, SFits, ◌≡◌, ℕ, List, length, ap, sym, ◌∙◌, arith, ◌++◌, ◌∷◌, []}
+use Rattle.std.proofs.Common.{rules, SFits, arith}
 use Rattle.std.specs.Int.{w32}
 use Rattle.std.proofs.lemmas.Int.{to_z-of_z}
 use Rattle.prv_pool.specs.Tables.{term_at}
 use Rattle.prv_pool.proofs.NodeLemmas.{term_at-some}
-use Rattle.prv_text.specs.Waiting.{Goes}
 use Rattle.prv_text.proofs.Writing.{goes-Param, goes-Num, goes-Op, goes-Pick, on-ok, on-pushed}
 use Rattle.prv_text.proofs.node.open.Goals as goal
 

@@ -1,8 +1,7 @@
-use Rattle.std.proofs.Common.{◌≡◌, ℕ, List, sym, ◌∙◌, arith}
+use Rattle.std.proofs.Common.{sym, ◌∙◌, arith}
 use Rattle.prv_pool.specs.Tables.{term_at}
 use Rattle.prv_pool.proofs.NodeLemmas.{term_at-some}
 use Rattle.prv_text.specs.Terms.{spelled}
-use Rattle.prv_text.specs.Waiting.{Goes}
 use Rattle.prv_text.proofs.Writing.{spelled-compound, goes-compound, goes-simple, on-ok}
 use Rattle.prv_text.proofs.node.push_operand.Goals as goal
 

@@ -1,4 +1,4 @@
-use Rattle.std.proofs.Common.{◌≡◌, ◌++◌, ◌∙◌, ap, codes, arith, List, ℕ}
+use Rattle.std.proofs.Common.{◌++◌, ◌∙◌, ap, codes, arith, List, ℕ}
 use Rattle.prv_text.proofs.Spelling.{cut-long}
 use Rattle.prv_text.proofs.pieces.cut_behind.Goals as goal
 

@@ -1,4 +1,4 @@
-use Rattle.std.proofs.Common.{◌≡◌, ◌++◌, codes}
+use Rattle.std.proofs.Common.{◌++◌, codes}
 use Rattle.prv_text.specs.Terms.{symbol as symbol_of}
 use Rattle.prv_text.proofs.Capped.{take_more_of}
 use Rattle.prv_text.proofs.pieces.push_between.Goals as goal

@@ -1,4 +1,4 @@
-use Rattle.std.proofs.Common.{rules, ◌≡◌, ◌++◌, List, ℕ, take, codes, true, false, ap, sym, ◌∙◌}
+use Rattle.std.proofs.Common.{◌≡◌, ◌++◌, List, ℕ, take, codes, true, false, ap, sym, ◌∙◌}
 use Rattle.prv_text.specs.Terms.{spelled, operand, between, Spelled}
 use Rattle.prv_text.proofs.Capped.{take_more_of}
 use Rattle.prv_text.proofs.Spelling.{spelled-Op, spelled-Pick, operand-compound, operand-simple}

@@ -1,0 +1,4 @@
+pub mod Budgets
+pub mod Grown
+pub mod Turning
+pub mod UnderWay
