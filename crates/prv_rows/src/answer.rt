@@ -1,6 +1,7 @@
 ghost use Rattle.std.specs.Prelude.{◌<◌, length};
 
 use crate::expansion::expanded;
+use crate::formulas::{Shown, shown_of};
 use crate::refusal::Refusal;
 use crate::settlements::{
     board_answer, capped_answer, find_answer, parent_answer, path_answer, settle_answer,
@@ -48,6 +49,8 @@ pub fn answer(alloc: Global, row: &str) -> Result<String, Refusal> {
         "find" => find_answer(alloc, text),
         "path" => path_answer(alloc, text),
         "parent" => parent_answer(alloc, text),
+        "formula" => formula_answer(alloc, text),
+        "edges" => edges_answer(alloc, text),
         _ => Err(Refusal::Row),
     }
 }
@@ -242,4 +245,53 @@ fn words_answer(alloc: Global, text: &str) -> Result<String, Refusal> {
     let command = read_words(alloc, words.as_slice())?;
     let waits = command.waits();
     Ok(format!(in alloc; "{command:?} waits {waits}")?)
+}
+
+/// What is shown of the formula of a condition.
+fn formula_answer(alloc: Global, text: &str) -> Result<String, Refusal> {
+    let text = expanded(alloc, text)?;
+    let text = String::from_utf8(text).map_err(|_| Refusal::Row)?;
+    let mut line = String::new(alloc);
+    match shown_of(alloc, text.as_str())? {
+        Shown::Met(input) => {
+            line.push_str("met at")?;
+            for word in input.as_slice() {
+                write!(line, " {word}")?;
+            }
+        }
+        Shown::Refuted => line.push_str("refuted")?,
+        Shown::Open => line.push_str("open")?,
+        Shown::Large => line.push_str("over a million clauses")?,
+        Shown::Costs(cost) => write!(line, "costs {cost}")?,
+    }
+    Ok(line)
+}
+
+/// An operator and words: of each two of the words what the operator's circuit gives, with `;` behind each first one.
+fn edges_answer(alloc: Global, text: &str) -> Result<String, Refusal> {
+    let (op, words) = text.split_once(' ').ok_or(Refusal::Row)?;
+    let mut line = String::new(alloc);
+    for a in words.split(' ') {
+        for b in words.split(' ') {
+            show_edge(alloc, &mut line, op, a, b)?;
+        }
+        line.push(';')?;
+    }
+    Ok(line)
+}
+
+/// Shows what the circuit of an operator on two parameters gives where these are made two numbers afterwards, and `?`
+/// where unit propagation alone doesn't find it.
+fn show_edge(alloc: Global, line: &mut String, op: &str, a: &str, b: &str) -> Result<(), Refusal> {
+    let circuit = format!(in alloc; "c a b {op} == a {a} == b {b} ==")?;
+    let Shown::Met(input) = shown_of(alloc, circuit.as_str())? else {
+        return Err(Refusal::Row);
+    };
+    let value = input.as_slice().get(2).copied().unwrap_or(0);
+    write!(line, " {value}")?;
+    let other = format!(in alloc; "{circuit} c {value} !=")?;
+    if !matches!(shown_of(alloc, other.as_str())?, Shown::Refuted) {
+        line.push('?')?;
+    }
+    Ok(())
 }

@@ -4,6 +4,8 @@
 mod answer;
 mod boards;
 mod expansion;
+mod formulas;
+mod nodes;
 mod refusal;
 mod settlements;
 mod stages;
