@@ -1,14 +1,15 @@
-/* Writes as many clauses as a formula has, of the same lengths: the least time of some rounds.
+/* Writes as many clauses as a formula has, of the same lengths, so many times.
+ *
+ *   write_clauses TIMES
  *
  * Each line of the input is one that blast_main prints: a kind, a count, microseconds, variables, clauses, and
  * how many clauses there are of each length from 0 to 32. The answer to it is the kind, the count and the least
  * time in microseconds of writing them into one growing array, each clause as its length and its literals. */
 #include <stdio.h>
 #include <stdlib.h>
-#include <string.h>
 #include <time.h>
 
-enum { LONGEST = 32, ROUNDS = 5 };
+enum { LONGEST = 32 };
 
 struct array {
     int *items;
@@ -38,29 +39,36 @@ static long write_all(const long *counts, int variables)
 {
     struct array array = {0};
     long left[LONGEST + 1], sum;
-    int variable = 1, any = 1;
-    memcpy(left, counts, sizeof left);
-    while (any) {
-        any = 0;
-        for (int length = 0; length <= LONGEST; length++) {
-            if (!left[length])
-                continue;
-            left[length]--;
-            any = 1;
+    int lengths[LONGEST + 1], kinds = 0, variable = 1;
+    for (int length = 0; length <= LONGEST; length++)
+        if (counts[length]) {
+            left[kinds] = counts[length];
+            lengths[kinds++] = length;
+        }
+    while (kinds) {
+        int kept = 0;
+        for (int kind = 0; kind < kinds; kind++) {
+            int length = lengths[kind];
             push(&array, length);
             for (int i = 0; i < length; i++) {
                 variable = variable < variables ? variable + 1 : 1;
                 push(&array, i % 2 ? -variable : variable);
             }
+            if (--left[kind]) {
+                left[kept] = left[kind];
+                lengths[kept++] = length;
+            }
         }
+        kinds = kept;
     }
     sum = array.length ? array.items[array.length - 1] + (long)array.length : 0;
     free(array.items);
     return sum;
 }
 
-int main(void)
+int main(int argc, char **argv)
 {
+    int times = argc > 1 ? atoi(argv[1]) : 5;
     char kind[64];
     long count, micros, variables, clauses, counts[LONGEST + 1];
     while (scanf("%63s %ld %ld %ld %ld", kind, &count, &micros, &variables, &clauses) == 5) {
@@ -69,7 +77,7 @@ int main(void)
         for (int length = 0; length <= LONGEST; length++)
             if (scanf("%ld", &counts[length]) != 1)
                 return 1;
-        for (int round = 0; round < ROUNDS; round++) {
+        for (int round = 0; round < times; round++) {
             double start = now();
             sum += write_all(counts, variables ? variables : 1);
             double took = now() - start;

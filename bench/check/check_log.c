@@ -142,7 +142,7 @@ static long number(FILE *file) {
     return n;
 }
 int main(int argc, char **argv) {
-    if (argc != 3) return 2;
+    if (argc != 4) return 2;
     FILE *file = fopen(argv[1], "r");
     if (!file) return 2;
     vars = number(file); formula_count = number(file); line_count = number(file);
@@ -171,11 +171,14 @@ int main(int argc, char **argv) {
     for (int time = 0; time < atoi(argv[2]); time++) {
         double begin = now();
         why = check();
-        double middle = now();
+        double took = now() - begin;
+        if (took < least) least = took;
+    }
+    for (int time = 0; time < atoi(argv[3]); time++) {
+        double begin = now();
         why_fresh = check_fresh();
-        double end = now();
-        if (middle - begin < least) least = middle - begin;
-        if (end - middle < least_fresh) least_fresh = end - middle;
+        double took = now() - begin;
+        if (took < least_fresh) least_fresh = took;
     }
     printf("%.0f %.0f %s %s\n", least, least_fresh, why ? why : "ok", why_fresh ? why_fresh : "ok");
     return 0;
