@@ -4,7 +4,7 @@
 #   bench/journal/run.sh [ROUNDS [APPENDS]]
 #
 # In a folder of its own under the temporary folder, which has to be on a disk, it compiles the peer and builds a
-# scratch copy of the crates prv_disk and prv_journal with a program over them, whose text is journal_main.rt.txt
+# scratch copy of the crates prv_io, prv_disk and prv_journal with a program over them, whose text is journal_main.rt.txt
 # (`rt` proves it first, which takes some minutes). Then each of them in turn, ROUNDS times (5 if not given), appends
 # APPENDS records of 100 bytes (200 if not given) to a new file, each lasting before the next; and each in turn
 # loads, or reads, a file of 100 MB. It prints the least times and their ratios. Where `sqlite3` (Debian's package)
@@ -20,7 +20,7 @@ trap 'rm -rf "$work"' EXIT
 gcc -O2 -o "$work/journal" "$here/journal.c"
 bench=$work/copy/crates/journal_bench
 mkdir -p "$bench/src" "$bench/proofs/append_all"
-for crate in prv_disk prv_journal; do
+for crate in prv_io prv_disk prv_journal; do
     mkdir -p "$work/copy/crates/$crate"
     for part in src specs proofs; do
         cp -r "$repository/crates/$crate/$part" "$work/copy/crates/$crate/"
@@ -29,7 +29,7 @@ done
 cp "$here/journal_main.rt.txt" "$bench/src/main.rt"
 cp "$here/invariants.antt.txt" "$bench/proofs/append_all/Invariants.antt"
 {
-    grep -E '^(prv_disk|prv_journal):' "$repository/crates.txt"
+    grep -E '^(prv_io|prv_disk|prv_journal):' "$repository/crates.txt"
     echo 'journal_bench: prv_journal prv_disk'
 } > "$work/copy/crates.txt"
 git -C "$work/copy" init -q

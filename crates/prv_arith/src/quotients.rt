@@ -200,7 +200,9 @@ fn divide_words(
 struct Division {
     /// Whether the divisor isn't 0.
     nonzero: Bit,
+    /// The bits of the quotient, the highest first.
     quotient: [Bit; 32],
+    /// The bits of the remainder, the highest first.
     rest: [Bit; 32],
 }
 

@@ -1,3 +1,4 @@
+//! Operators at the edges of words, as circuits of constants.
 ghost use Rattle.std.specs.Prelude.{ℕ};
 ghost use Rattle.prv_arith.specs.Lists.{AllBits};
 

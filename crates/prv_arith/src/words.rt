@@ -17,6 +17,7 @@ use std::alloc::AllocError;
 /// The 32 bits of a word in two's complement, bit 31 first.
 #[derive(Clone, Copy)]
 pub struct Word {
+    /// The bits, the highest first.
     pub bits: [Bit; 32],
 }
 

@@ -57,7 +57,9 @@ fn number_word(number: i32) -> Word
 /// The circuit made so far, and the words of the first subterms in their order.
 #[derive(Drop)]
 pub(crate) struct Encoder {
+    /// The circuit.
     builder: Builder,
+    /// The word of each subterm, by its place in the order of first visits.
     words: Vec<Word>,
 }
 

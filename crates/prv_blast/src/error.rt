@@ -1,3 +1,5 @@
+//! Why a condition has no formula: it would cost too many clauses, and the count is told, since it is a reason
+//! that a report shows.
 use std::alloc::AllocError;
 use thiserror::Error;
 

@@ -27,6 +27,7 @@ pub const MAX_CLAUSES: u64 = 1_500_000;
 /// highest bit of parameter 0 first.
 #[derive(Debug, Drop)]
 pub struct Blasted {
+    /// The formula. Its first variables are the bits of the parameters, 32 of each, bit 31 first.
     pub cnf: Cnf,
     /// How many parameters the condition has, from 0 to 8.
     pub params: u8,

@@ -13,6 +13,7 @@ use std::marker::Model;
 /// Distinct nodes of a pool, each behind its operands, in the order in which they were first met.
 #[derive(Drop)]
 pub(crate) struct Order {
+    /// The nodes' numbers, with an index by hash.
     nodes: IndexSet<u32>,
 }
 

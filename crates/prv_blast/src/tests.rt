@@ -1,3 +1,4 @@
+//! That formulas are made with ample memory, and the bound on their cost from both sides.
 ghost use Rattle.std.specs.Prelude.{◌≡◌, ◌<◌, ◌≤◌, [], ◌∷◌, length, IfOk, OnOk};
 ghost use Rattle.std.specs.List.{AllByRecursion};
 ghost use Rattle.prv_model.specs.Terms.{IsTerm};

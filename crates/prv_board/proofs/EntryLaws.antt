@@ -44,7 +44,7 @@ entry-over b root os rs tally sums n p tree at =
 pub entry-few : (b : Replay) (root : Part) (os : List Origin) (rs : List (Option Retired)) (tally : Counts) (sums : Totals) (n : ℕ) (p : Part) → IsTree b root os rs tally sums → part_at (slots b) n ≡ Some p → length p.region ≤ 2 ^ 48
 entry-few b root os rs tally sums n p tree at =
     let all = ap (λ (t : Totals). t.literals) tree.totals in
-    omega (arith, all, tree.few_literals, own-within (λ q. length q.region) (slots b) n p at)
+    omega (arith, all, tree.fits.literals, tree.caps.few_literals, own-within (λ q. length q.region) (slots b) n p at)
 
 -- what a fact says of each part that may stand at a number, it says of the one that is lent
 pub lent : {R : Type 0} (now : R → Part) (r : Option R) (o : Option Part) (Q : Part → Type 0) → option_map now r ≡ o → ((p : Part) → o ≡ Some p → Q p) → IfSome r (λ x. Q (now x))

@@ -16,7 +16,7 @@ use Rattle.prv_board.specs.Slots.{Slot, live_slot, whole, retire, after, after_a
 use Rattle.prv_board.specs.Replays.{Replay, BoardView, slots}
 use Rattle.prv_board.specs.Legality.{regions, IsLegalBoard}
 use Rattle.prv_board.specs.Parents.{parent_of}
-use Rattle.prv_board.specs.Paths.{Holds, HoldsAlone, HoldsPart, IsStep, IsWayTo}
+use Rattle.prv_board.specs.Paths.{Holds, HoldsAlone, IsStep, IsWayTo}
 use Rattle.prv_board.specs.Trees.{part_from, parent_at, Stand}
 use Rattle.prv_board.specs.Kept.{IsTree}
 use Rattle.prv_board.specs.declared.counts.Counts.{Counts}
@@ -26,7 +26,6 @@ use Rattle.prv_board.specs.declared.tree.Origin.{Origin}
 use Rattle.prv_board.specs.declared.tree.Origin.TheVariants.{Made}
 use Rattle.prv_board.specs.declared.tree.Retired.{Retired}
 use Rattle.prv_board.proofs.SlotLaws.{add_up-append}
-use Rattle.prv_board.proofs.ReplayLaws.{pairs-in-turn}
 use Rattle.prv_board.proofs.TreeLaws.{get-front, get-back, get-append}
 use Rattle.prv_board.proofs.BoardLaws.{own-within}
 use Rattle.prv_board.proofs.LegalLaws.{places-add_up, legal-replay}
@@ -89,33 +88,25 @@ stand-live whole history [] (r ∷ rs) slots n slot st at open_entry = absurd st
 stand-live whole history (o ∷ os) [] slots n slot st at open_entry = absurd st
 stand-live whole history (o ∷ os) (r ∷ rs) [] n slot st at open_entry = absurd st
 
--- a settlement whose region holds an input has the input in one part
-settled-once : (pair : Pair) (s : Finding) (x : List ℤ) → s.pair ≡ pair → IsSettlement s → IsInput pair.before.params x → holds s.region x ≡ true → places (regions s.parts) x ≡ 1
-settled-once pair s x same settled input inside =
-    let P : Pair → Type 0 = λ q. IsInput q.before.params x in
-    settled.once x (subst P (sym same) input) ∙ ap one_if inside
-
 -- what is known where a settlement retired an entry that holds an input
 pub record IsWay (b : Replay) (x : List ℤ) (n : ℕ) (r : Retired) : Type 0 where
   pub settlement : Finding
   pub applied : slice_get b.history r.settlement ≡ Some settlement
-  pub once : places (regions settlement.parts) x ≡ 1
+  pub inside : holds settlement.region x ≡ true
   pub steps : (i : ℕ) (p : Part) → slice_get settlement.parts i ≡ Some p → holds p.region x ≡ true → IsStep b x n (r.first + i)
 
-pub way-down : (b : Replay) (root : Part) (os : List Origin) (rs : List (Option Retired)) (counts : Counts) (sums : Totals) (x : List ℤ) (n : ℕ) (r : Retired) → IsTree b root os rs counts sums → IsInput b.pair.before.params x → Holds (slots b) x n → slice_get rs n ≡ Some (Some r) → IsWay b x n r
-way-down b root os rs counts sums x n r tree input here at =
+pub way-down : (b : Replay) (root : Part) (os : List Origin) (rs : List (Option Retired)) (counts : Counts) (sums : Totals) (x : List ℤ) (n : ℕ) (r : Retired) → IsTree b root os rs counts sums → Holds (slots b) x n → slice_get rs n ≡ Some (Some r) → IsWay b x n r
+way-down b root os rs counts sums x n r tree here at =
     let by = tree.retired n r at in
     let s = by.settlement in
     let stood = stand-slot root b.history os rs (slots b) n here.slot tree.stand here.at in
     let found = ap (λ (o : Option Origin). option_map (λ p. p.region) (option_and_then (part_from root b.history) o)) stood.1 ∙ ap (λ (o : Option Part). option_map (λ p. p.region) o) stood.2 in
     let same : here.slot.part.region ≡ s.region = same_Some here.slot.part.region s.region (sym found ∙ by.region) in
     let inside : holds s.region x ≡ true = ap (λ (t : List Term). holds t x) (sym same) ∙ here.inside in
-    let settled = all-at IsSettlement b.history r.settlement s tree.settlements by.applied in
-    let pair : s.pair ≡ b.pair = all-at (λ (t : Finding). t.pair ≡ b.pair) b.history r.settlement s (pairs-in-turn (record { pair = b.pair; space = b.space; caps = b.caps; history = [] }) b.history tree.replay) by.applied in
     record {
       settlement = s;
       applied = by.applied;
-      once = settled-once b.pair s x pair settled input inside;
+      inside = inside;
       steps = λ i p part holds_part.
           let child : slice_get os (r.first + i) ≡ Some (Made r.settlement i) = by.children i (slice_get_within s.parts i p part) in
           let slot = stand-origin root b.history os rs (slots b) (r.first + i) (Made r.settlement i) tree.stand child in
@@ -141,11 +132,10 @@ retired-none o r none is = none-some r (sym none ∙ ap (λ (q : Option (Option 
 
 -- the way down, as a step of the walk knows it
 pub way-known : (v w : BoardView) (root : Part) (os : List Origin) (rs rs' : List (Option Retired)) (counts : Counts) (sums : Totals) (x : List ℤ) (n : ℕ) (r : Retired) → v ≡ w → IsTree v.replay root os rs counts sums → rs' ≡ rs →
-    Some r ≡ option_and_then (λ q. q) (slice_get rs' n) → length x ≡ w.replay.pair.before.params → All IsWord x → Holds (slots w.replay) x n → IsWay v.replay x n r
-way-known v w root os rs rs' counts sums x n r same tree e is long words here =
-    let P : BoardView → Type 0 = λ u. length x ≡ u.replay.pair.before.params in
+    Some r ≡ option_and_then (λ q. q) (slice_get rs' n) → Holds (slots w.replay) x n → IsWay v.replay x n r
+way-known v w root os rs rs' counts sums x n r same tree e is here =
     let Q : BoardView → Type 0 = λ u. Holds (slots u.replay) x n in
-    way-down v.replay root os rs counts sums x n r tree (record { long = subst P (sym same) long; words = words }) (subst Q (sym same) here)
+    way-down v.replay root os rs counts sums x n r tree (subst Q (sym same) here)
     (retired-some (slice_get rs n) r (ap (λ (z : List (Option Retired)). option_and_then (λ q. q) (slice_get z n)) (sym e) ∙ sym is))
 
 -- the item at a place, of which a list keeps what it stands for
@@ -179,26 +169,6 @@ pub holds-first : (b : Replay) (x : List ℤ) → holds b.space x ≡ true → H
 holds-first b x inside =
     let first = first-kept (live_slot (whole b.space) ∷ []) b.history (live_slot (whole b.space)) refl in
     record { slot = first.0; at = first.1; inside = ap (λ (p : Part). holds p.region x) first.2 ∙ inside }
-
--- in how many of the parts from one on an input lies
-pub places-drop : (x : List ℤ) (ps : List Part) (i : ℕ) (p : Part) → i < length ps → p ≡ get_or ps i p → places (regions (drop i ps)) x ≡ one_if (holds p.region x) + places (regions (drop (i + 1) ps)) x
-places-drop x ps i p inside is =
-    ap (λ (qs : List Part). places (regions qs) x) (drop_more ps i p inside) ∙ ap (λ (q : Part). one_if (holds q.region x) + places (regions (drop (i + 1) ps)) x) (sym is)
-
--- the part at a place
-pub part-here : (x : List ℤ) (ps : List Part) (i : ℕ) (p : Part) → i < length ps → p ≡ get_or ps i p → holds p.region x ≡ true → HoldsPart ps x i
-part-here x ps i p inside is here = record { part = p; at = slice_get_read ps (length ps) i p refl inside is; inside = here }
-
--- where a part does not hold the input, one of those behind it does
-pub rest-once : (x : List ℤ) (ps : List Part) (i : ℕ) (p : Part) → i < length ps → p ≡ get_or ps i p → holds p.region x ≡ false → places (regions (drop i ps)) x ≡ 1 → places (regions (drop (i + 1) ps)) x ≡ 1
-rest-once x ps i p inside is out once =
-    let own : one_if (holds p.region x) ≡ 0 = ap one_if out in
-    omega (arith, own, once, places-drop x ps i p inside is)
-
-pub none-left : (x : List ℤ) (ps : List Part) (i : ℕ) → length ps ≤ i → places (regions (drop i ps)) x ≡ 1 → ⊥
-none-left x ps i past once =
-    let none : places (regions (drop i ps)) x ≡ 0 = ap (λ (qs : List Part). places (regions qs) x) (drop_of_length-le ps past) in
-    omega (arith, none, once)
 
 -- an entry that no settlement retired, and that holds an input of the space
 pub alone-here : (v w : BoardView) (root : Part) (os : List Origin) (rs rs' : List (Option Retired)) (counts : Counts) (sums : Totals) (x : List ℤ) (n : ℕ) → v ≡ w → IsTree v.replay root os rs counts sums → rs' ≡ rs →

@@ -7,10 +7,6 @@ use Rattle.prv_model.specs.declared.program.Pair.{Pair}
 use Rattle.prv_model.specs.declared.term.Term.{Term}
 use Rattle.prv_part.specs.declared.part.Part.{Part}
 use Rattle.prv_part.specs.declared.part.Caps.{Caps}
-use Rattle.prv_model.specs.declared.entry.Reason.{Reason}
-use Rattle.prv_part.specs.declared.shape.Shape.{Shape}
-use Rattle.prv_part.specs.declared.shape.Shape.TheVariants.{Empty, Stuck, Beyond, Whole, Split}
-use Rattle.prv_part.specs.Parts.{Other, parts_of}
 use Rattle.prv_part.specs.Settlements.{Finding, IsSettlement}
 use Rattle.prv_board.specs.Slots.{Slot, whole, live_parts, part_at}
 use Rattle.prv_board.specs.Replays.{Replay, BoardView, numbers_of, with_one_more, slots, literals_of, totals, HasRegion, Applies, counts_of}
@@ -26,6 +22,7 @@ use Rattle.prv_board.proofs.ReplayLaws.{slots-push, replay-push, numbers_of-push
 use Rattle.prv_board.proofs.TreeLaws.{stand-after, retired-after, stand-part_at, unless-some}
 use Rattle.prv_board.proofs.ParentLaws.{origins_all-push}
 use Rattle.prv_board.proofs.BoardLaws.{own-within}
+use Rattle.prv_part.proofs.Holding.{some-parts}
 
 pub stand-length : (whole : Part) (history : List Finding) (os : List Origin) (rs : List (Option Retired)) (slots : List Slot) → Stand whole history os rs slots → (length os ≡ length slots) × (length rs ≡ length slots)
 stand-length whole history [] [] [] st = (refl, refl)
@@ -65,6 +62,8 @@ tree-after b first os rs counts sums s new_counts new_sums tree applies settled 
     record {
       caps = tree.caps;
       first = tree.first;
+      few = tree.few;
+      room = tree.room;
       over = tree.over;
       replay = replay-push b s tree.replay applies;
       settlements = all-append IsSettlement b.history (s ∷ []) tree.settlements (settled, tt);
@@ -75,9 +74,11 @@ tree-after b first os rs counts sums s new_counts new_sums tree applies settled 
       retired = retired-after first b.history os rs (slots b) s tree.stand applies.belongs.same_region tree.retired;
       counts = counted;
       totals = summed;
-      few_entries = omega (arith, is_entries, fits.entries, tree.caps.few_entries);
-      few_numbers = omega (arith, is_numbers, fits.numbers, tree.caps.few_numbers);
-      few_literals = omega (arith, is_literals, fits.literals, tree.caps.few_literals);
+      fits = record {
+        entries = omega (arith, is_entries, fits.entries);
+        numbers = omega (arith, is_numbers, fits.numbers);
+        literals = omega (arith, is_literals, fits.literals);
+      };
       few_made = omega (arith, grown, tree.few_made, length-append os made, origins-length (length b.history) 0 (length s.parts));
     }
   where
@@ -114,19 +115,6 @@ entry-within whole history os rs slots s st has =
     let said = mapped-some (λ p. p.region) (part_at slots s.entry) s.region has in
     let stood = unless-some whole history (slice_get os s.entry) (slice_get rs s.entry) said.0 (stand-part_at whole history os rs slots s.entry st ∙ said.1) in
     omega (arith, slice_get_within os s.entry stood.0 stood.1, (stand-length whole history os rs slots st).0, (stand-length whole history os rs slots st).1)
-
-parts-some : (pair : Pair) (region : List Term) (shape : Shape) (t : List ℤ) (other : Other) (why : Reason) → 1 ≤ length (parts_of pair region shape t other why)
-parts-some pair region Empty t other why = omega arith
-parts-some pair region Stuck t other why = omega arith
-parts-some pair region Beyond t other why = omega arith
-parts-some pair region Whole t other why = omega arith
-parts-some pair region Split t other why = omega arith
-
--- a settlement has a part
-pub some-parts : (s : Finding) → IsSettlement s → 1 ≤ length s.parts
-some-parts s settled =
-    let has = settled.parts in
-    omega (arith, ap length has.2, parts-some s.pair s.region s.shape (unwrap_or s.member []) has.0 has.1)
 
 -- there are fewer settlements than parts
 pub few-settlements : (history : List Finding) → AllByRecursion IsSettlement history → length history ≤ numbers_of history

@@ -7,3 +7,4 @@ pub mod ParentLaws
 pub mod KeptLaws
 pub mod FindLaws
 pub mod EntryLaws
+pub mod ApplyingLaws

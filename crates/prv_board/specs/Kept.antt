@@ -6,7 +6,7 @@ use Rattle.prv_part.specs.Settlements.{IsSettlement}
 use Rattle.prv_part.specs.Parts.{IsOver}
 use Rattle.prv_part.specs.declared.part.Part.{Part}
 use Rattle.prv_board.specs.Slots.{live_parts, whole}
-use Rattle.prv_board.specs.Replays.{Replay, BoardView, AreCaps, IsReplay, slots, totals, counts_of}
+use Rattle.prv_board.specs.Replays.{Replay, BoardView, AreCaps, Fits, IsReplay, slots, totals, counts_of}
 use Rattle.prv_board.specs.Trees.{Stand, AreRetired, origins_all}
 use Rattle.prv_board.specs.declared.counts.Counts.{Counts}
 use Rattle.prv_board.specs.declared.totals.Totals.{Totals}
@@ -30,6 +30,8 @@ seen i = record { replay = replay_of i; spare = i.spare }
 pub record IsTree (b : Replay) (root : Part) (os : List Origin) (rs : List (Option Retired)) (tally : Counts) (sums : Totals) : Type 0 where
   pub caps : AreCaps b.caps
   pub first : root ≡ whole b.space
+  pub few : length b.space ≤ 2
+  pub room : length b.space ≤ b.caps.literals
   pub over : IsOver b.pair.before.params b.space
   pub replay : IsReplay b
   pub settlements : AllByRecursion IsSettlement b.history
@@ -38,9 +40,7 @@ pub record IsTree (b : Replay) (root : Part) (os : List Origin) (rs : List (Opti
   pub retired : AreRetired root b.history os rs
   pub counts : tally ≡ counts_of (live_parts (slots b))
   pub totals : sums ≡ totals b
-  pub few_entries : sums.entries ≤ 2 ^ 30
-  pub few_numbers : sums.numbers ≤ 2 ^ 31
-  pub few_literals : sums.literals ≤ 2 ^ 48
+  pub fits : Fits b.caps sums
   pub few_made : length os ≤ 1 + sums.numbers
 
 -- the fields stand for a board, and room is kept for a settlement with the spare number of parts

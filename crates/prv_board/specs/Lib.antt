@@ -1,5 +1,6 @@
 pub mod Slots
 pub mod Replays
+pub mod Applying
 pub mod Counting
 pub mod Legality
 pub mod Parents

@@ -35,9 +35,3 @@ pub record IsWayTo (b : Replay) (x : List ℤ) (path : List ℕ) (n : ℕ) : Typ
 -- a path to an input: a way down to the one live entry that holds it
 abbrev pub IsPath : Replay → List ℤ → List ℕ → Type 0
 IsPath b x path = (n : ℕ) × IsWayTo b x path n × HoldsAlone (slots b) x n
-
--- the part at a place holds an input
-pub record HoldsPart (parts : List Part) (x : List ℤ) (i : ℕ) : Type 0 where
-  pub part : Part
-  pub at : slice_get parts i ≡ Some part
-  pub inside : holds part.region x ≡ true

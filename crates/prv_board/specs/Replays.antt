@@ -1,5 +1,5 @@
 -- What is applied to a board, in which order, and when a settlement may be.
-use Rattle.std.specs.Prelude.{◌≡◌, refl, ℕ, ◌+◌, ◌^◌, ◌≤◌, Bool, true, false, List, [], ◌∷◌, ◌++◌, length, Some, option_map}
+use Rattle.std.specs.Prelude.{◌≡◌, refl, ℕ, ◌+◌, ◌^◌, ◌≤◌, Bool, true, false, List, [], ◌∷◌, ◌++◌, length, take, Some, option_map}
 use Rattle.std.specs.Coded.{Coded, code_by, coded×, coded_ℕ, coded_list}
 use Rattle.prv_model.specs.Boards.{one_if}
 use Rattle.prv_model.specs.declared.entry.Kind.{Kind}
@@ -34,6 +34,10 @@ unsettled pair space caps = record { pair = pair; space = space; caps = caps; hi
 -- the board with one more settlement
 abbrev pub with_one_more : Replay → Finding → Replay
 with_one_more b s = record { pair = b.pair; space = b.space; caps = b.caps; history = b.history ++ s ∷ [] }
+
+-- the board of the first settlements of a board, so many of them
+abbrev pub prefix : ℕ → Replay → Replay
+prefix count b = record { pair = b.pair; space = b.space; caps = b.caps; history = take count b.history }
 
 -- the entries of a board
 abbrev pub slots : Replay → List Slot
@@ -107,9 +111,7 @@ Refuses b s (Stranger (stranger.NotLive entry)) = (entry ≡ s.entry) × (s.pair
 Refuses b s (Stranger (stranger.Region entry)) = (entry ≡ s.entry) × (s.pair ≡ b.pair) × (is_open (slots b) s ≡ true) × ¬ HasRegion (slots b) s
 Refuses b s (Stranger (stranger.NotOut entry)) = ⊥
 Refuses b s (Stranger (stranger.Entry found given)) = ⊥
-Refuses b s (Full entries numbers literals) =
-    let reached : Totals = record { entries = entries; numbers = numbers; literals = literals } in
-    Belongs b s × (reached ≡ totals (with_one_more b s)) × ¬ Fits b.caps reached
+Refuses b s (Full reached) = Belongs b s × (reached ≡ totals (with_one_more b s)) × ¬ Fits b.caps reached
 Refuses b s Memory = Unit {0}
 
 -- how many parts have a kind that passes a test

@@ -1,7 +1,9 @@
-//! Applying settlements.
+//! Applying settlements. Room is made first, and then nothing can fail, so that a caller can do other work in between
+//! that must not be lost.
 ghost use Rattle.std.specs.Prelude.{◌≡◌, ◌+◌, ◌≤◌, ◌<◌, ◌++◌, length, IfOk, IfErr, OnOk, OnErr, slice_set, vec_len, vec_capacity};
 ghost use Rattle.std.specs.Arc.{arc_value};
 ghost use Rattle.prv_board.specs.Replays.{slots, with_one_more, Applies, Refuses, IsReady};
+ghost use Rattle.prv_board.specs.Applying.{absorbed as absorbed_of};
 ghost use Rattle.prv_board.specs.Trees.{origins_from, not_retired};
 
 use crate::board::Board;
@@ -63,6 +65,20 @@ impl Board {
         Ok(self.apply_ready(settlement))
     }
 
+    /// Applies a settlement where it applies, and else leaves the board as it is. Where memory is short, the
+    /// board is as before.
+    pub fn absorb(&mut self, settlement: Arc<Settlement>) -> Result<(), AllocError>
+        ensures absorbed { OnOk result (self.new.replay ≡ absorbed_of self.old.replay (arc_value settlement)) }
+        ensures unchanged { OnErr result (self.new.replay ≡ self.old.replay) }
+    {
+        match self.apply(settlement) {
+            Ok(_) => Ok(()),
+            Err(ApplyError::Stranger(_)) => Ok(()),
+            Err(ApplyError::Full(_)) => Ok(()),
+            Err(ApplyError::Memory) => Err(AllocError),
+        }
+    }
+
     /// Refuses a settlement as `apply` does, or makes the room that `apply_ready` needs.
     pub fn reserve_for(&mut self, settlement: &Settlement) -> Result<(), ApplyError>
         ensures ready { OnOk result (IsReady self.new settlement.now) }
@@ -75,7 +91,7 @@ impl Board {
     }
 
     /// Makes room for a settlement of so many parts.
-    fn make_room(&mut self, count: u32) -> Result<(), AllocError>
+    pub(crate) fn make_room(&mut self, count: u32) -> Result<(), AllocError>
         ensures room { OnOk result (count ≤ self.new.spare) }
         ensures unchanged { self.new.replay ≡ self.old.replay }
     {

@@ -1,12 +1,13 @@
-//! The board and its readers.
-ghost use Rattle.std.specs.Prelude.{◌≡◌, ◌≤◌, ◌^◌, length, map, IfOk, IfSome};
+//! The board and its readers. Entries are kept as a tree: each knows the settlement that made it, and the one
+//! that retired it, so that applying and looking up cost no more than the parts that they touch.
+ghost use Rattle.std.specs.Prelude.{◌≡◌, ◌≤◌, ◌<◌, ◌^◌, length, map, IfOk, IfSome};
 ghost use Rattle.std.specs.Arc.{arc_value};
 ghost use Rattle.std.specs.Option.{option_copied};
 ghost use Rattle.prv_part.specs.Parts.{IsOver};
 ghost use Rattle.prv_board.specs.Slots.{live_parts, part_at, whole};
-ghost use Rattle.prv_board.specs.Replays.{AreCaps, unsettled, slots, totals, counts_of};
+ghost use Rattle.prv_board.specs.Replays.{AreCaps, Fits, unsettled, slots, totals, counts_of};
 
-use crate::counts::{Counts, count_kind};
+use crate::counts::Counts;
 use crate::totals::Totals;
 use crate::tree::{Origin, Retired, entry_at};
 use prv_model::{Kind, Pair};
@@ -24,17 +25,23 @@ use std::sync::Arc;
 /// exactly one live entry, and what an entry claims is true of every input that it holds.
 #[derive(Drop)]
 pub struct Board {
+    /// What the lists take memory from.
     pub(crate) alloc: Global,
+    /// The pair that the board is about.
     pub(crate) pair: Arc<Pair>,
+    /// The most that it may hold.
     pub(crate) caps: Caps,
     /// What entry 0 says.
     pub(crate) whole: Part,
+    /// The settlements that were applied, in order.
     pub(crate) settlements: Vec<Arc<Settlement>>,
     /// Where each entry comes from.
     pub(crate) origins: Vec<Origin>,
     /// Which settlement retired each entry, if one did.
     pub(crate) retired: Vec<Option<Retired>>,
+    /// How many live entries there are of each kind.
     pub(crate) counts: Counts,
+    /// How much it holds.
     pub(crate) totals: Totals,
     /// Room is kept for a settlement of so many parts.
     pub(crate) spare: u32,
@@ -66,7 +73,8 @@ pub(crate) fn unexplored(alloc: Global, region: Region) -> Part
 }
 
 impl Board {
-    /// The board of a pair over a space that nothing was applied to: entry 0 is the space, unexplored.
+    /// The board of a pair over a space that nothing was applied to: entry 0 is the space, unexplored. The
+    /// space has at most two literals, and no more than the cap on literals.
     pub fn new(
         alloc: Global,
         pair: Arc<Pair>,
@@ -76,6 +84,7 @@ impl Board {
         requires few { length space ≤ 2 }
         requires over { IsOver (arc_value pair).before.params space }
         requires caps { AreCaps caps }
+        requires room { length space ≤ caps.literals }
         ensures { IfOk result (λ board. board.replay ≡ unsettled (arc_value pair) space caps) }
     {
         let literals = space.parts().roots.len() as u64;
@@ -88,7 +97,7 @@ impl Board {
             alloc,
             pair,
             caps,
-            counts: count_kind(&whole.kind),
+            counts: Counts::of_kind(&whole.kind),
             whole,
             settlements: Vec::new(alloc),
             origins,
@@ -132,6 +141,16 @@ impl Board {
         &self.pair
     }
 
+    /// The space that the board covers. Another board may be made over it, with the same caps.
+    pub fn space(&self) -> &Region
+        ensures value { result.now ≡ self.now.replay.space }
+        ensures few { length self.now.replay.space ≤ 2 }
+        ensures over { IsOver self.now.replay.pair.before.params self.now.replay.space }
+        ensures room { length self.now.replay.space ≤ self.now.replay.caps.literals }
+    {
+        &self.whole.region
+    }
+
     /// The most that the board may hold.
     pub fn caps(&self) -> Caps
         ensures value { result ≡ self.now.replay.caps }
@@ -140,12 +159,11 @@ impl Board {
         self.caps
     }
 
-    /// How much the board holds.
+    /// How much the board holds, within its caps.
     pub fn totals(&self) -> Totals
         ensures value { result ≡ totals (self.now.replay) }
-        ensures few_entries { result.entries ≤ 2 ^ 30 }
-        ensures few_numbers { result.numbers ≤ 2 ^ 31 }
-        ensures few_literals { result.literals ≤ 2 ^ 48 }
+        ensures fits { Fits self.now.replay.caps result }
+        ensures caps { AreCaps self.now.replay.caps }
     {
         self.totals
     }
@@ -155,9 +173,10 @@ impl Board {
         self.alloc
     }
 
-    /// The settlements that were applied, in order.
+    /// The settlements that were applied, in order. There are at most 2^31.
     pub fn history(&self) -> &[Arc<Settlement>]
-        ensures { map (λ s. arc_value s) result.now ≡ self.now.replay.history }
+        ensures value { map (λ s. arc_value s) result.now ≡ self.now.replay.history }
+        ensures few { length self.now.replay.history ≤ 2 ^ 31 }
     {
         self.settlements.as_slice()
     }

@@ -1,3 +1,5 @@
+//! Why a board does not take a settlement: it belongs to another board, or a cap would be passed.
+use crate::totals::Totals;
 use std::alloc::AllocError;
 use thiserror::Error;
 
@@ -27,14 +29,9 @@ pub enum ApplyError {
     /// The settlement does not belong to the board.
     #[error("{0}")]
     Stranger(StrangerWhy),
-    /// A cap would be passed. These are the totals that would be reached: of the live entries, of the
-    /// numbers of all settlements with the count of their parts, and of the literals of the live entries.
-    #[error("the board is full: {entries} entries, {numbers} numbers, {literals} literals")]
-    Full {
-        entries: u32,
-        numbers: u64,
-        literals: u64,
-    },
+    /// A cap would be passed. These are the totals that would be reached.
+    #[error("the board is full: {0}")]
+    Full(Totals),
     /// Want of memory.
     #[error("out of memory")]
     Memory,

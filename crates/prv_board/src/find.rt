@@ -1,35 +1,16 @@
-//! Which entry holds an input.
-ghost use Rattle.std.specs.Prelude.{◌≡◌, ◌≤◌, ◌<◌, ◌^◌, true, Some, length, OnOk};
+//! Which entry holds an input. The way goes from the first entry along the settlements that retired entries, so its cost
+//! depends on how deep the entry lies and not on how many entries there are.
+ghost use Rattle.std.specs.Prelude.{◌≡◌, ◌≤◌, true, length, OnOk};
 ghost use Rattle.std.specs.Option.{MatchOption};
-ghost use Rattle.prv_model.specs.Boards.{places};
 ghost use Rattle.prv_model.specs.Terms.{holds};
 ghost use Rattle.prv_board.specs.Replays.{slots};
-ghost use Rattle.prv_board.specs.Legality.{regions};
-ghost use Rattle.prv_board.specs.Paths.{Holds, HoldsAlone, HoldsPart, IsStep};
+ghost use Rattle.prv_board.specs.Paths.{Holds, HoldsAlone, IsStep};
 
 use crate::board::Board;
 use crate::tree::retired_by;
 use prv_model::Input;
-use prv_part::Part;
 use prv_pool::{MAX_REGION_NODES, Scratch};
 use std::alloc::AllocError;
-
-/// The place of the part that holds an input.
-fn which(parts: &[Part], input: &Input, scratch: &mut Scratch) -> u32
-    requires few { length parts.now < 2 ^ 30 }
-    requires once { places (regions parts.now) input.now ≡ 1 }
-    requires reserved { MAX_REGION_NODES ≤ scratch.old }
-    ensures part { HoldsPart parts.now input.now result }
-    ensures room { scratch.new ≡ scratch.old }
-{
-    for i in 0..parts.len() {
-        let part = &parts[i];
-        if part.region.holds(input, scratch) {
-            return i as u32;
-        }
-    }
-    unreachable!()
-}
 
 impl Board {
     /// Makes room in a scratch for `find`, `path` and `in_space`. Where memory is short, the room stays as it was.
@@ -52,8 +33,8 @@ impl Board {
 
     /// The number of the one live entry that holds an input of the space.
     ///
-    /// It goes from entry 0 along the settlements that retired entries, and tests the parts of one settlement
-    /// at a time. It takes no memory.
+    /// It goes from entry 0 along the settlements that retired entries. Each settlement on the way costs one
+    /// pass over the nodes of one table, however many parts it has. It takes no memory.
     pub fn find(&self, input: &Input, scratch: &mut Scratch) -> u32
         requires arity { length input.now ≡ self.now.replay.pair.before.params }
         requires inside { holds self.now.replay.space input.now ≡ true }
@@ -77,11 +58,12 @@ impl Board {
         ensures step { MatchOption result (HoldsAlone (slots self.now.replay) input.now number) (IsStep self.now.replay input.now number) }
         ensures room { scratch.new ≡ scratch.old }
     {
+        // An input's words are in range.
         let _words = input.as_slice();
         match retired_by(self.retired.as_slice(), number) {
             Some(by) => {
-                let parts = self.settlements[by.settlement as usize].parts();
-                Some(by.first + which(parts, input, scratch))
+                let settlement = &self.settlements[by.settlement as usize];
+                Some(by.first + settlement.part_of(input, scratch))
             }
             None => None,
         }

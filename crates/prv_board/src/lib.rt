@@ -10,11 +10,14 @@ mod board;
 mod claim;
 mod copy;
 mod counts;
+mod ended;
 mod error;
 mod find;
+mod laws;
 mod legal;
 mod parent;
 mod path;
+mod prefix;
 mod refuse;
 #[cfg(test)]
 mod tests;
@@ -23,6 +26,8 @@ mod tree;
 
 pub use board::Board;
 pub use counts::Counts;
+pub use ended::Ended;
 pub use error::{ApplyError, StrangerWhy};
+pub use laws::applying_is_decided;
 pub use parent::Parent;
 pub use totals::Totals;

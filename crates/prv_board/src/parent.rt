@@ -10,10 +10,12 @@ use prv_part::Settlement;
 use sqlite_items::at;
 use std::sync::Arc;
 
-/// The entry whose settlement made an entry, and the place of the part in the settlement, from 0.
+/// The entry whose settlement made an entry, and the place of the part in that settlement, from 0.
 #[derive(Clone, Copy, Debug, PartialEq, Eq)]
 pub struct Parent {
+    /// The number of the entry.
     pub entry: u32,
+    /// The place of the part.
     pub part: u32,
 }
 

@@ -5,7 +5,7 @@ ghost use Rattle.prv_board.specs.Slots.{live_parts, is_left_within as is_left_wi
 ghost use Rattle.prv_board.specs.Replays.{slots, with_one_more, totals, counts_of, Belongs, Applies, Refuses};
 
 use crate::board::Board;
-use crate::counts::{Counts, count_kind, less, with_parts};
+use crate::counts::Counts;
 use crate::error::{ApplyError, StrangerWhy};
 use crate::totals::{Totals, literals};
 use prv_model::{Kind, Reason};
@@ -55,11 +55,7 @@ impl Board {
         if reached.fit(&self.caps()) {
             Ok(())
         } else {
-            Err(ApplyError::Full {
-                entries: reached.entries,
-                numbers: reached.numbers,
-                literals: reached.literals,
-            })
+            Err(ApplyError::Full(reached))
         }
     }
 
@@ -107,8 +103,8 @@ impl Board {
     {
         match self.entry(settlement.entry()) {
             Some(part) => {
-                let left = less(self.counts(), count_kind(&part.kind));
-                with_parts(left, settlement.parts())
+                let left = self.counts().minus(Counts::of_kind(&part.kind));
+                left.plus_parts(settlement.parts())
             }
             None => unreachable!(),
         }

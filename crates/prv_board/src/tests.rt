@@ -1,10 +1,11 @@
+//! What no clause says: that each call succeeds where there is memory, and the printed words.
 ghost use Rattle.std.specs.Prelude.{◌≡◌, [], ◌∷◌, IfOk, IfSome};
 ghost use Rattle.std.specs.Arc.{arc_value};
 ghost use Rattle.prv_model.specs.declared.entry.Kind.TheVariants as kind;
 ghost use Rattle.prv_model.specs.declared.entry.Reason.TheVariants as reason;
 ghost use Rattle.prv_part.specs.Parts.{unmarked};
 
-use crate::{Board, Counts, Parent};
+use crate::{ApplyError, Board, Counts, Parent, Totals};
 use prv_model::{Expr, Input, Kind, Name, Pair, Program, Reason, Stmt};
 use prv_part::{Caps, Part, Settlement};
 use prv_pool::{Cond, Pool, Region, Scratch};
@@ -102,15 +103,18 @@ fn walk(alloc: Global, board: &Board) -> Result<(u32, Vec<u32>), Fail>
     Ok((found, path))
 }
 
-/// No entry of any kind.
-const NONE: Counts = Counts {
-    same: 0,
-    different: 0,
-    empty: 0,
-    beyond: 0,
-    unexplored: 0,
-    undecided: 0,
-};
+/// The words of a refusal.
+#[test]
+fn a_full_board_is_told(rt: HostRuntime) -> Result<(), Fail> {
+    let full = ApplyError::Full(Totals {
+        entries: 3,
+        numbers: 40,
+        literals: 5,
+    });
+    let words = format!(in rt.alloc(); "{full}")?;
+    assert!(rt; words.as_str() == "the board is full: 3 entries, 40 numbers, 5 literals");
+    Ok(())
+}
 
 /// The walk to an input, the counts and the numbers of a board of all inputs, before and after a settlement.
 #[test]
@@ -125,7 +129,7 @@ fn a_board_of_all_inputs(rt: HostRuntime) -> Result<(), Fail> {
         board.counts()
             == Counts {
                 unexplored: 1,
-                ..NONE
+                ..Counts::NONE
             }
     );
     let first = board.apply(stuck(alloc, pair)?)?;
@@ -138,8 +142,12 @@ fn a_board_of_all_inputs(rt: HostRuntime) -> Result<(), Fail> {
         copied.counts()
             == Counts {
                 undecided: 1,
-                ..NONE
+                ..Counts::NONE
             }
     );
+    let again = stuck(alloc, Arc::try_clone(board.pair())?)?;
+    board.absorb(again)?;
+    let begun = board.prefix(0)?;
+    assert!(rt; board.next_number() == 2 && begun.next_number() == 1 && begun.history().is_empty());
     Ok(())
 }

@@ -1,8 +1,9 @@
-//! How much a board holds.
+//! How much a board holds: the totals that its caps bound.
 ghost use Rattle.std.specs.Prelude.{◌≡◌, ◌↔◌, ◌+◌, ◌<◌, ◌^◌, IsTrue};
 ghost use Rattle.prv_board.specs.Replays.{Fits, literals_of};
 
 use prv_part::{Caps, Part};
+use std::fmt::{self, Display, Formatter, Write};
 
 /// How much a board holds.
 #[derive(Clone, Copy, Debug, PartialEq, Eq)]
@@ -23,6 +24,20 @@ impl Totals {
         self.entries <= caps.entries
             && self.numbers <= caps.numbers
             && self.literals <= caps.literals
+    }
+}
+
+impl Display for Totals {
+    fn fmt<W: Write>(&self, f: &mut Formatter<W>) -> fmt::Result {
+        let Totals {
+            entries,
+            numbers,
+            literals,
+        } = self;
+        write!(
+            f,
+            "{entries} entries, {numbers} numbers, {literals} literals"
+        )
     }
 }
 

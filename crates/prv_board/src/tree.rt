@@ -1,4 +1,5 @@
-//! Where each entry comes from, and which settlement retired it.
+//! Where each entry comes from, and which settlement retired it. What an entry says is read from the settlement that
+//! made it, so that no part is kept twice.
 ghost use Rattle.std.specs.Prelude.{◌≡◌, map, option_and_then, slice_get};
 ghost use Rattle.std.specs.Arc.{arc_value};
 ghost use Rattle.std.specs.Option.{option_copied};
@@ -17,10 +18,12 @@ pub enum Origin {
     Made { settlement: u32, part: u32 },
 }
 
-/// The place of the settlement that retired an entry, and the number of that settlement's first part.
+/// By which settlement an entry was retired, and where its parts went.
 #[derive(Clone, Copy, Debug, PartialEq, Eq)]
 pub struct Retired {
+    /// The place of the settlement in the history.
     pub settlement: u32,
+    /// The number of the entry that its first part became.
     pub first: u32,
 }
 

@@ -10,3 +10,6 @@ pub mod Passing
 pub mod Counting
 pub mod Coding
 pub mod Spending
+pub mod Bounding
+pub mod Numbering
+pub mod Judging

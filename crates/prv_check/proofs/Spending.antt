@@ -19,12 +19,12 @@ use Rattle.prv_check.proofs.Coding.{code, code_none, code_small, same_code, few_
 use Rattle.prv_check.proofs.Passing.{passes, unless_none, or_none}
 
 -- what the clause of a line has that follows
-record IsPlain (n : ℕ) (c : List Lit) : Type 0 where
-  within : list_all (is_within n) c ≡ true
-  once : no_repeat c ≡ true
-  plain : is_tautology c ≡ false
+pub record IsPlain (n : ℕ) (c : List Lit) : Type 0 where
+  pub within : list_all (is_within n) c ≡ true
+  pub once : no_repeat c ≡ true
+  pub plain : is_tautology c ≡ false
 
-follows_plain : (f : Formula) (earlier : List LogLine) (s : LogLine) → line_fault f earlier s ≡ None → IsPlain f.vars s.clause
+pub follows_plain : (f : Formula) (earlier : List LogLine) (s : LogLine) → line_fault f earlier s ≡ None → IsPlain f.vars s.clause
 follows_plain f earlier s none =
     let clause = or_none (clause_fault f.vars s.clause) _ none in
     let a = unless_none (list_all (is_within f.vars) s.clause) BadLiteral _ clause.0 in
@@ -39,7 +39,7 @@ learnt_at f log learnt j d inside =
     let here : slice_get log j ≡ Some line = slice_get_read log (length log) j line refl inside (get_or_default log j d line inside) in
     subst (λ (o : Option LogLine). IfSome o (IsLearnt f (take j log))) here (learnt j)
 
-known_length : (f : Formula) (earlier : List LogLine) → length (known f earlier) ≡ length f.clauses + length earlier
+pub known_length : (f : Formula) (earlier : List LogLine) → length (known f earlier) ≡ length f.clauses + length earlier
 known_length f earlier =
     length-append f.clauses (map (λ s. s.clause) earlier) ∙ ap (λ (n : ℕ). length f.clauses + n) (length-map earlier (λ (s : LogLine). s.clause))
 

@@ -5,5 +5,6 @@ pub mod Logs
 pub mod Preparation
 pub mod Freshness
 pub mod Spending
-pub mod NextLines
+pub mod Bounds
+pub mod BadLines
 pub mod Inner

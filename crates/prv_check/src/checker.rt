@@ -5,11 +5,11 @@ ghost use Rattle.prv_cnf.specs.Models.{HasNoModel};
 ghost use Rattle.prv_check.specs.Lines.{line_fault as fault_of};
 ghost use Rattle.prv_check.specs.Logs.{IsFaultless, IsFirstFault, IsAccepted, IsRefused, IsCause, ends_empty};
 
+use crate::assignment::Assignment;
 use crate::fault::{CheckError, LineWhy};
 use crate::law::accepted_has_no_model;
 use crate::line::line_fault;
 use crate::log::{Line, Log};
-use crate::marks::Marks;
 use prv_cnf::Cnf;
 use std::alloc::Global;
 
@@ -26,8 +26,8 @@ pub fn check(alloc: Global, cnf: &Cnf, log: &Log) -> Result<(), CheckError>
     ensures cause { IfErr result (IsCause (IsRefused cnf.now log.now)) }
 {
     let lines = log.lines();
-    let mut marks = Marks::new(alloc, cnf.vars(), longest(lines))?;
-    check_lines(cnf, lines, &mut marks)?;
+    let mut assignment = Assignment::new(alloc, cnf.vars(), longest(lines))?;
+    check_lines(cnf, lines, &mut assignment)?;
     if !ends_empty(lines) {
         return Err(CheckError::Refused {
             line: lines.len() as u32,
@@ -57,17 +57,17 @@ pub fn size(line: &Line) -> usize
 }
 
 /// Tests each line, up to the first that has a fault.
-fn check_lines(cnf: &Cnf, lines: &[Line], marks: &mut Marks) -> Result<(), CheckError>
+fn check_lines(cnf: &Cnf, lines: &[Line], assignment: &mut Assignment) -> Result<(), CheckError>
     requires short { length lines.now < 2 ^ 32 }
-    requires clean { marks.old.trail ≡ [] }
-    requires formula { marks.old.vars ≡ cnf.now.vars }
-    requires room { All (λ s. length s.clause + length s.hints ≤ marks.old.room) lines.now }
+    requires clean { assignment.old.trail ≡ [] }
+    requires formula { assignment.old.vars ≡ cnf.now.vars }
+    requires room { All (λ s. length s.clause + length s.hints ≤ assignment.old.room) lines.now }
     ensures ok { OnOk result (IsFaultless (fault_of cnf.now) lines.now) }
     ensures err { IfErr result (IsCause (IsFirstFault (fault_of cnf.now) lines.now)) }
 {
     for at in 0..lines.len() {
-        let why = line_fault(cnf, &lines[..at], &lines[at], marks);
-        marks.clear();
+        let why = line_fault(cnf, &lines[..at], &lines[at], assignment);
+        assignment.clear();
         if let Some(why) = why {
             return Err(CheckError::Refused {
                 line: at as u32,
@@ -79,7 +79,7 @@ fn check_lines(cnf: &Cnf, lines: &[Line], marks: &mut Marks) -> Result<(), Check
 }
 
 /// Whether the last line is the empty clause.
-fn ends_empty(lines: &[Line]) -> bool
+pub fn ends_empty(lines: &[Line]) -> bool
     ensures { result ≡ ends_empty lines.now }
 {
     match lines.last() {

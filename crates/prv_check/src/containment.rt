@@ -69,15 +69,3 @@ fn some_covered(cnf: &Cnf, earlier: &[Line], entries: &[Entry], bits: u64, seen:
     }
     false
 }
-
-/// Whether one of the clauses has literals of the table alone, by a look at each of them.
-pub fn contains_any(cnf: &Cnf, earlier: &[Line], seen: &Flags) -> bool
-    ensures { result ≡ list_any (are_flagged seen.now) (known cnf.now earlier.now) }
-{
-    for number in 0..known_count(cnf, earlier) {
-        if all_flagged(seen, clause_at(cnf, earlier, number)) {
-            return true;
-        }
-    }
-    false
-}

@@ -1,3 +1,4 @@
+//! What is wrong with a line or a log: one enum for each test, whose answer a caller may print.
 use std::alloc::AllocError;
 use thiserror::Error;
 
@@ -59,27 +60,50 @@ impl From<AllocError> for CheckError {
     }
 }
 
-/// Why a log can't go on with a line.
+/// Why a log doesn't refute a formula as a proof is to.
 #[derive(Clone, Copy, Debug, PartialEq, Eq, Error)]
-pub enum NextError {
-    /// The line doesn't follow or isn't fresh: the first test that it fails.
-    #[error("{0}")]
-    Refused(LineWhy),
-    /// A hint stands in the line twice.
-    #[error("a hint stands in the line twice")]
-    RepeatedHint,
+pub enum RefutationError {
+    /// The first line, from 0, that doesn't follow or names a clause twice.
+    #[error("line {line} does not follow from different clauses")]
+    BadLine { line: u32 },
+    /// Each line is good, and the log doesn't end with the empty line.
+    #[error("the log does not end with the empty line")]
+    NoEmpty,
     /// Memory ran out.
     #[error("out of memory")]
     Memory,
 }
 
-impl From<AllocError> for NextError {
+impl From<AllocError> for RefutationError {
     ghost use Rattle.std.specs.Prelude.{◌≡◌};
-    ghost use Rattle.prv_check.specs.declared.fault.NextError.TheVariants.{Memory};
+    ghost use Rattle.prv_check.specs.declared.fault.RefutationError.TheVariants.{Memory};
 
     ghost from_gives = { λ _ e. e ≡ Memory };
 
-    fn from(_error: AllocError) -> NextError {
-        NextError::Memory
+    fn from(_error: AllocError) -> RefutationError {
+        RefutationError::Memory
+    }
+}
+
+/// Why no budget was spent on the lines of a log.
+#[derive(Clone, Copy, Debug, PartialEq, Eq, Error)]
+pub enum SpentError {
+    /// The first line, from 0, that doesn't follow, isn't fresh or names a clause twice. For the line
+    /// past the budget it is the count of the log's lines.
+    #[error("line {line} is not worth its numbers")]
+    BadLine { line: u32 },
+    /// Memory ran out.
+    #[error("out of memory")]
+    Memory,
+}
+
+impl From<AllocError> for SpentError {
+    ghost use Rattle.std.specs.Prelude.{◌≡◌};
+    ghost use Rattle.prv_check.specs.declared.fault.SpentError.TheVariants.{Memory};
+
+    ghost from_gives = { λ _ e. e ≡ Memory };
+
+    fn from(_error: AllocError) -> SpentError {
+        SpentError::Memory
     }
 }

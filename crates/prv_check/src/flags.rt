@@ -8,7 +8,9 @@ use std::marker::Model;
 /// rounds count as not set.
 #[derive(Debug, Drop)]
 pub struct Flags {
+    /// The round that counts.
     round: u32,
+    /// Under each flag the round in which it was set last.
     rounds: Vec<u32>,
 }
 

@@ -7,6 +7,7 @@ ghost use Rattle.prv_check.specs.Inner.Places.{place_of, AreFlagged, IsTableOf};
 ghost use Rattle.prv_check.specs.Inner.Indexing.{IsIndex};
 ghost use Rattle.prv_check.specs.Freshness.{is_new, fresh_fault, AreFresh};
 
+use crate::assignment::Assignment;
 use crate::checker::longest;
 use crate::containment::{contains_indexed, index_of};
 use crate::fault::{CheckError, LineWhy};
@@ -16,7 +17,6 @@ use crate::known::known_count;
 use crate::lean::is_lean;
 use crate::line::line_fault;
 use crate::log::{Line, Log};
-use crate::marks::Marks;
 use crate::place::flag_all;
 use prv_cnf::{Cnf, Lit};
 use std::alloc::{AllocError, Global};
@@ -36,16 +36,16 @@ pub fn check_fresh(alloc: Global, cnf: &Cnf, log: &Log) -> Result<(), CheckError
     ensures cause { IfErr result (IsCause (IsFirstFault (fresh_fault cnf.now) log.now)) }
 {
     let lines = log.lines();
-    let mut marks = Marks::new(alloc, cnf.vars(), longest(lines))?;
+    let mut assignment = Assignment::new(alloc, cnf.vars(), longest(lines))?;
     let mut seen = Flags::new(alloc, 2 * cnf.vars() as usize + 1)?;
     let occurs = occurring(alloc, cnf, lines)?;
     let mut index = index_of(alloc, cnf, occurs)?;
-    fresh_lines(cnf, lines, &mut index, &mut marks, &mut seen)?;
+    fresh_lines(cnf, lines, &mut index, &mut assignment, &mut seen)?;
     Ok(())
 }
 
 /// The table of the literals that occur in the lines, of those of the formula's variables.
-fn occurring(alloc: Global, cnf: &Cnf, lines: &[Line]) -> Result<Flags, AllocError>
+pub fn occurring(alloc: Global, cnf: &Cnf, lines: &[Line]) -> Result<Flags, AllocError>
     ensures size { IfOk result (λ t. length t ≡ 2 * cnf.now.vars + 1) }
     ensures flagged { IfOk result (λ t. All (λ s. AreFlagged t s.clause) lines.now) }
 {
@@ -61,23 +61,23 @@ fn fresh_lines(
     cnf: &Cnf,
     lines: &[Line],
     index: &mut Index,
-    marks: &mut Marks,
+    assignment: &mut Assignment,
     seen: &mut Flags,
 ) -> Result<(), CheckError>
     requires short { length lines.now < 2 ^ 32 }
     requires index { IsIndex (known cnf.now []) index.old }
     requires places { length index.old.occurs ≡ 2 * cnf.now.vars + 1 }
     requires occur { All (λ s. AreFlagged index.old.occurs s.clause) lines.now }
-    requires clean { marks.old.trail ≡ [] }
-    requires formula { marks.old.vars ≡ cnf.now.vars }
-    requires room { All (λ s. length s.clause + length s.hints ≤ marks.old.room) lines.now }
+    requires clean { assignment.old.trail ≡ [] }
+    requires formula { assignment.old.vars ≡ cnf.now.vars }
+    requires room { All (λ s. length s.clause + length s.hints ≤ assignment.old.room) lines.now }
     requires table { length seen.old ≡ 2 * cnf.now.vars + 1 }
     ensures ok { OnOk result (IsFaultless (fresh_fault cnf.now) lines.now) }
     ensures err { IfErr result (IsCause (IsFirstFault (fresh_fault cnf.now) lines.now)) }
 {
     for at in 0..lines.len() {
-        let why = fresh_fault(cnf, &lines[..at], &lines[at], index, marks, seen);
-        marks.clear();
+        let why = fresh_fault(cnf, &lines[..at], &lines[at], index, assignment, seen);
+        assignment.clear();
         if let Some(why) = why {
             return Err(CheckError::Refused {
                 line: at as u32,
@@ -90,7 +90,12 @@ fn fresh_lines(
 }
 
 /// Adds a line to the index of those before it.
-fn index_line(cnf: &Cnf, earlier: &[Line], line: &Line, index: &mut Index) -> Result<(), AllocError>
+pub fn index_line(
+    cnf: &Cnf,
+    earlier: &[Line],
+    line: &Line,
+    index: &mut Index,
+) -> Result<(), AllocError>
     requires { IsIndex (known cnf.now earlier.now) index.old }
     ensures index { OnOk result (IsIndex (known cnf.now (earlier.now ++ line.now ∷ [])) index.new) }
     ensures occurs { OnOk result (index.new.occurs ≡ index.old.occurs) }
@@ -100,33 +105,33 @@ fn index_line(cnf: &Cnf, earlier: &[Line], line: &Line, index: &mut Index) -> Re
 }
 
 /// The first test that a line fails which is to follow and to be fresh.
-fn fresh_fault(
+pub fn fresh_fault(
     cnf: &Cnf,
     earlier: &[Line],
     line: &Line,
     index: &Index,
-    marks: &mut Marks,
+    assignment: &mut Assignment,
     seen: &mut Flags,
 ) -> Option<LineWhy>
     requires index { IsIndex (known cnf.now earlier.now) index.now }
     requires places { length index.now.occurs ≡ 2 * cnf.now.vars + 1 }
     requires occur { AreFlagged index.now.occurs line.now.clause }
-    requires clean { marks.old.trail ≡ [] }
-    requires formula { marks.old.vars ≡ cnf.now.vars }
-    requires room { length line.now.clause + length line.now.hints ≤ marks.old.room }
+    requires clean { assignment.old.trail ≡ [] }
+    requires formula { assignment.old.vars ≡ cnf.now.vars }
+    requires room { length line.now.clause + length line.now.hints ≤ assignment.old.room }
     requires table { length seen.old ≡ 2 * cnf.now.vars + 1 }
     ensures fault { result ≡ fresh_fault cnf.now earlier.now line.now }
-    ensures marks { marks.new ≡ record marks.old { trail = marks.new.trail } }
+    ensures assignment { assignment.new ≡ record assignment.old { trail = assignment.new.trail } }
     ensures table { length seen.new ≡ length seen.old }
 {
-    let why = line_fault(cnf, earlier, line, marks);
+    let why = line_fault(cnf, earlier, line, assignment);
     if why.is_some() {
         return why;
     }
     if !is_new(cnf, earlier, line, index, seen) {
         return Some(LineWhy::Contains);
     }
-    if !is_lean(cnf, earlier, line, marks, seen) {
+    if !is_lean(cnf, earlier, line, assignment, seen) {
         return Some(LineWhy::Loose);
     }
     None

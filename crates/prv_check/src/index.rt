@@ -21,15 +21,20 @@ use std::marker::Model;
 /// A clause that is listed: its signature and its number.
 #[derive(Clone, Copy, Debug)]
 pub struct Entry {
+    /// The bits of its literals.
     pub signature: u64,
+    /// Its number.
     pub number: usize,
 }
 
 /// Clauses, listed by literal.
 #[derive(Debug, Drop)]
 pub struct Index {
+    /// The literals that lines have.
     occurs: Flags,
+    /// Whether an empty clause was added.
     has_empty: bool,
+    /// Under each literal the clauses that are listed there.
     lists: Vec<Items<Entry>>,
 }
 

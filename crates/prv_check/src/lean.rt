@@ -8,10 +8,10 @@ ghost use Rattle.prv_check.specs.Lines.{known, clauses_at, is_within};
 ghost use Rattle.prv_check.specs.Inner.Places.{place_of, flag};
 ghost use Rattle.prv_check.specs.Freshness.{stands_in, have_use, is_lean};
 
+use crate::assignment::{Assignment, has_negation};
 use crate::flags::Flags;
 use crate::known::clause_at;
 use crate::log::Line;
-use crate::marks::{Marks, has_negation};
 use crate::place::{all_flagged, flag_all, place};
 use crate::slices::after;
 use prv_cnf::{Cnf, Lit};
@@ -20,18 +20,24 @@ use sqlite_items::at as at_place;
 /// Whether each literal of a line that follows stands in one of its hints, and each literal that a
 /// hint before the last made true has its negation in a later hint. The trail is that after the test
 /// of the line.
-pub fn is_lean(cnf: &Cnf, earlier: &[Line], line: &Line, marks: &Marks, seen: &mut Flags) -> bool
+pub fn is_lean(
+    cnf: &Cnf,
+    earlier: &[Line],
+    line: &Line,
+    assignment: &Assignment,
+    seen: &mut Flags,
+) -> bool
     requires known { IsTrue (list_all (λ n. nat_lt n (length (known cnf.now earlier.now))) line.now.hints) }
     requires within { IsTrue (list_all (is_within cnf.now.vars) line.now.clause) }
     requires follows { hints_fault (map negate line.now.clause) (clauses_at (known cnf.now earlier.now) line.now.hints) ≡ None }
-    requires trail { marks.now.trail ≡ trail_after (map negate line.now.clause) (clauses_at (known cnf.now earlier.now) line.now.hints) }
-    requires room { length line.now.clause ≤ length marks.now.trail }
+    requires trail { assignment.now.trail ≡ trail_after (map negate line.now.clause) (clauses_at (known cnf.now earlier.now) line.now.hints) }
+    requires room { length line.now.clause ≤ length assignment.now.trail }
     requires table { length seen.old ≡ 2 * cnf.now.vars + 1 }
     ensures lean { result ≡ is_lean cnf.now earlier.now line.now }
     ensures table { length seen.new ≡ length seen.old }
 {
     let lits = line.clause().lits();
-    let units = after(marks.trail(), lits.len());
+    let units = after(assignment.trail(), lits.len());
     let used = have_use(cnf, earlier, line.hints(), units, seen);
     all_flagged(seen, lits) & used
 }

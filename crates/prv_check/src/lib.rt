@@ -3,8 +3,10 @@
 //! model, and whoever made the log needs no trust.
 #![tactic(auto)]
 
+mod assignment;
 mod checker;
 mod containment;
+mod distinct;
 mod fault;
 mod flags;
 mod fresh;
@@ -14,20 +16,24 @@ mod law;
 mod lean;
 mod line;
 mod log;
-mod marks;
-mod next;
 mod place;
 mod propagate;
+mod refutation;
 mod signature;
 mod slices;
+mod spent;
 #[cfg(test)]
 mod tests;
 mod work;
 
 pub use checker::check;
-pub use fault::{CheckError, LineWhy, NextError};
+pub use fault::{CheckError, LineWhy, RefutationError, SpentError};
 pub use fresh::check_fresh;
-pub use law::{accepted_has_no_model, ample_budget_is_not_spent};
+pub use law::{
+    accepted_has_no_model, accepted_log_is_bounded, ample_budget_is_not_spent,
+    learnt_log_is_bounded, line_is_bounded,
+};
 pub use log::{Line, Log};
-pub use next::check_next;
+pub use refutation::check_refutation;
+pub use spent::check_spent;
 pub use work::{Work, check_line, prepare};

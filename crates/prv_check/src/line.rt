@@ -5,47 +5,52 @@ ghost use Rattle.prv_cnf.specs.Literals.{negate, has_literal};
 ghost use Rattle.prv_check.specs.Propagation.{trail_after};
 ghost use Rattle.prv_check.specs.Lines.{known, clauses_at, is_within, no_repeat, is_tautology, clause_fault, derivation_fault, line_fault};
 
+use crate::assignment::Assignment;
 use crate::fault::LineWhy;
 use crate::known::{all_below, known_count};
 use crate::log::Line;
-use crate::marks::Marks;
 use crate::propagate::propagate;
 use prv_cnf::{Cnf, Lit};
 
 /// The first test that a line fails after the earlier lines. Without a fault the trail then has the
 /// negations of the line's literals and what its hints made true, in this order.
-pub fn line_fault(cnf: &Cnf, earlier: &[Line], line: &Line, marks: &mut Marks) -> Option<LineWhy>
-    requires clean { marks.old.trail ≡ [] }
-    requires formula { marks.old.vars ≡ cnf.now.vars }
-    requires room { length line.now.clause + length line.now.hints ≤ marks.old.room }
+pub fn line_fault(
+    cnf: &Cnf,
+    earlier: &[Line],
+    line: &Line,
+    assignment: &mut Assignment,
+) -> Option<LineWhy>
+    requires clean { assignment.old.trail ≡ [] }
+    requires formula { assignment.old.vars ≡ cnf.now.vars }
+    requires room { length line.now.clause + length line.now.hints ≤ assignment.old.room }
     ensures fault { result ≡ line_fault cnf.now earlier.now line.now }
-    ensures trail { IfNone result (marks.new.trail ≡ trail_after (map negate line.now.clause) (clauses_at (known cnf.now earlier.now) line.now.hints)) }
-    ensures same { marks.new ≡ record marks.old { trail = marks.new.trail } }
+    ensures trail { IfNone result (assignment.new.trail ≡ trail_after (map negate line.now.clause) (clauses_at (known cnf.now earlier.now) line.now.hints)) }
+    ensures same { assignment.new ≡ record assignment.old { trail = assignment.new.trail } }
 {
-    let why = clause_fault(cnf.vars(), line.clause().lits(), marks);
+    let why = clause_fault(cnf.vars(), line.clause().lits(), assignment);
     if why.is_some() {
         return why;
     }
-    derivation_fault(cnf, earlier, line.hints(), marks)
+    derivation_fault(cnf, earlier, line.hints(), assignment)
 }
 
 /// The first test that a clause fails by itself. Without a fault the trail then has the negations of
 /// its literals.
-fn clause_fault(vars: u32, lits: &[Lit], marks: &mut Marks) -> Option<LineWhy>
-    requires clean { marks.old.trail ≡ [] }
-    requires formula { marks.old.vars ≡ vars }
-    requires room { length lits.now ≤ marks.old.room }
+fn clause_fault(vars: u32, lits: &[Lit], assignment: &mut Assignment) -> Option<LineWhy>
+    requires clean { assignment.old.trail ≡ [] }
+    requires formula { assignment.old.vars ≡ vars }
+    requires room { length lits.now ≤ assignment.old.room }
     ensures fault { result ≡ clause_fault vars lits.now }
-    ensures trail { IfNone result (marks.new.trail ≡ map negate lits.now) }
-    ensures same { marks.new ≡ record marks.old { trail = marks.new.trail } }
+    ensures trail { IfNone result (assignment.new.trail ≡ map negate lits.now) }
+    ensures same { assignment.new ≡ record assignment.old { trail = assignment.new.trail } }
 {
     if !all_within(vars, lits) {
         return Some(LineWhy::BadLiteral);
     }
-    if !falsify(lits, marks) {
+    if !falsify(lits, assignment) {
         return Some(LineWhy::Repeat);
     }
-    if is_tautology(lits, marks) {
+    if is_tautology(lits, assignment) {
         return Some(LineWhy::Tautology);
     }
     None
@@ -56,12 +61,12 @@ fn derivation_fault(
     cnf: &Cnf,
     earlier: &[Line],
     hints: &[u32],
-    marks: &mut Marks,
+    assignment: &mut Assignment,
 ) -> Option<LineWhy>
-    requires room { length marks.old.trail + length hints.now ≤ marks.old.room }
-    ensures fault { result ≡ derivation_fault marks.old.trail (known cnf.now earlier.now) hints.now }
-    ensures trail { IfNone result (marks.new.trail ≡ trail_after marks.old.trail (clauses_at (known cnf.now earlier.now) hints.now)) }
-    ensures same { marks.new ≡ record marks.old { trail = marks.new.trail } }
+    requires room { length assignment.old.trail + length hints.now ≤ assignment.old.room }
+    ensures fault { result ≡ derivation_fault assignment.old.trail (known cnf.now earlier.now) hints.now }
+    ensures trail { IfNone result (assignment.new.trail ≡ trail_after assignment.old.trail (clauses_at (known cnf.now earlier.now) hints.now)) }
+    ensures same { assignment.new ≡ record assignment.old { trail = assignment.new.trail } }
 {
     if hints.is_empty() {
         return Some(LineWhy::NoHints);
@@ -69,7 +74,7 @@ fn derivation_fault(
     if !all_below(hints, known_count(cnf, earlier)) {
         return Some(LineWhy::BadHint);
     }
-    propagate(cnf, earlier, hints, marks)
+    propagate(cnf, earlier, hints, assignment)
 }
 
 /// Whether each literal is of one of the variables.
@@ -81,29 +86,29 @@ fn all_within(vars: u32, lits: &[Lit]) -> bool
 }
 
 /// Makes each literal false, and answers whether none stands twice.
-fn falsify(lits: &[Lit], marks: &mut Marks) -> bool
-    requires clean { marks.old.trail ≡ [] }
-    requires within { IsTrue (list_all (is_within marks.old.vars) lits.now) }
-    requires room { length lits.now ≤ marks.old.room }
+fn falsify(lits: &[Lit], assignment: &mut Assignment) -> bool
+    requires clean { assignment.old.trail ≡ [] }
+    requires within { IsTrue (list_all (is_within assignment.old.vars) lits.now) }
+    requires room { length lits.now ≤ assignment.old.room }
     ensures once { result ≡ no_repeat lits.now }
-    ensures trail { marks.new ≡ record marks.old { trail = map negate lits.now } }
+    ensures trail { assignment.new ≡ record assignment.old { trail = map negate lits.now } }
 {
     let mut once = true;
     for lit in lits {
-        once = once && !marks.makes_false(*lit);
-        marks.add_negation(*lit);
+        once = once && !assignment.makes_false(*lit);
+        assignment.add_negation(*lit);
     }
     once
 }
 
 /// Whether a literal stands in the clause with its negation, once all its literals are false.
-fn is_tautology(lits: &[Lit], marks: &Marks) -> bool
-    requires within { IsTrue (list_all (is_within marks.now.vars) lits.now) }
-    requires trail { marks.now.trail ≡ map negate lits.now }
+fn is_tautology(lits: &[Lit], assignment: &Assignment) -> bool
+    requires within { IsTrue (list_all (is_within assignment.now.vars) lits.now) }
+    requires trail { assignment.now.trail ≡ map negate lits.now }
     ensures { result ≡ is_tautology lits.now }
 {
     for lit in lits {
-        if marks.makes_true(*lit) {
+        if assignment.makes_true(*lit) {
             return true;
         }
     }

@@ -1,4 +1,8 @@
-ghost use Rattle.std.specs.Prelude.{◌≡◌, ◌++◌, ◌∷◌, [], OnOk, OnErr};
+//! Logs: lines that each say which earlier clauses they follow from, in the manner of LRAT (Cruz-Filipe,
+//! Heule, Hunt, Kaufmann, Schneider-Kamp, 2017).
+ghost use Rattle.std.specs.Prelude.{◌≡◌, ◌<◌, ◌^◌, ◌++◌, ◌∷◌, [], min, OnOk, OnErr};
+ghost use Rattle.prv_check.specs.LogLines.{line_numbers};
+ghost use Rattle.prv_check.specs.Spending.{log_numbers};
 
 use prv_cnf::Clause;
 use std::alloc::AllocError;
@@ -9,7 +13,9 @@ use std::marker::Model;
 /// The clauses of the formula are numbered from 0, and the lines of the log go on from there.
 #[derive(Debug, Drop)]
 pub struct Line {
+    /// What follows.
     clause: Clause,
+    /// The numbers of the earlier clauses, in the order of their use.
     hints: Vec<u32>,
 }
 
@@ -43,6 +49,14 @@ impl Line {
         self.hints.as_slice()
     }
 
+    /// How many numbers it takes to write the line down: its literals, its hints, and their two counts.
+    pub fn numbers(&self) -> u64
+        ensures value { result ≡ line_numbers self.now }
+        ensures bound { result < 2 ^ 63 }
+    {
+        self.clause.lits().len() as u64 + self.hints().len() as u64 + 2
+    }
+
     /// Takes the line apart, without taking memory.
     pub fn into_parts(self) -> (Clause, Vec<u32>)
         ensures clause { result.0 ≡ self.clause }
@@ -56,6 +70,7 @@ impl Line {
 /// A log: lines that are each to follow from a formula and the lines before.
 #[derive(Debug, Drop)]
 pub struct Log {
+    /// The lines, in order.
     lines: Vec<Line>,
 }
 
@@ -83,6 +98,14 @@ impl Log {
         self.lines.as_slice()
     }
 
+    /// How many numbers it takes to write the lines down, or [`u64::MAX`] where it takes more. It takes
+    /// no memory, and the time of the lines.
+    pub fn numbers(&self) -> u64
+        ensures { result ≡ min (log_numbers self.now) u64.MAX }
+    {
+        numbers_of(self.lines.as_slice())
+    }
+
     /// Adds a line at the end. Want of memory leaves the log as it was.
     pub fn push(&mut self, line: Line) -> Result<(), AllocError>
         ensures ok { OnOk result (self.new ≡ self.old ++ line ∷ []) }
@@ -99,4 +122,15 @@ impl Log {
         let Log { lines } = self;
         lines
     }
+}
+
+/// How many numbers it takes to write the lines down, up to [`u64::MAX`].
+fn numbers_of(lines: &[Line]) -> u64
+    ensures { result ≡ min (log_numbers lines.now) u64.MAX }
+{
+    let mut sum = 0u64;
+    for line in lines {
+        sum = sum.saturating_add(line.numbers());
+    }
+    sum
 }

@@ -4,12 +4,12 @@ ghost use Rattle.std.specs.List.{list_all};
 ghost use Rattle.prv_cnf.specs.Literals.{same_literal};
 ghost use Rattle.prv_check.specs.Propagation.{is_false, unit_literal, hints_fault, trail_after};
 ghost use Rattle.prv_check.specs.Lines.{known, clauses_at};
-ghost use Rattle.prv_check.specs.Inner.Marking.{AreFalse};
+ghost use Rattle.prv_check.specs.Inner.Assigned.{AreFalse};
 
+use crate::assignment::{Assignment, is_false};
 use crate::fault::LineWhy;
 use crate::known::clause_at;
 use crate::log::Line;
-use crate::marks::{Marks, is_false};
 use prv_cnf::{Cnf, Lit};
 
 /// The one literal of a clause that isn't false, if there is one.
@@ -54,27 +54,32 @@ fn all_false(vars: u32, rounds: &[u32], round: u32, trail: &[Lit], lits: &[Lit])
 }
 
 /// Makes what the hints imply true, one hint after another, and answers the first fault.
-pub fn propagate(cnf: &Cnf, earlier: &[Line], hints: &[u32], marks: &mut Marks) -> Option<LineWhy>
+pub fn propagate(
+    cnf: &Cnf,
+    earlier: &[Line],
+    hints: &[u32],
+    assignment: &mut Assignment,
+) -> Option<LineWhy>
     requires known { IsTrue (list_all (λ n. nat_lt n (length (known cnf.now earlier.now))) hints.now) }
-    requires room { length marks.old.trail + length hints.now ≤ marks.old.room }
-    ensures fault { result ≡ hints_fault marks.old.trail (clauses_at (known cnf.now earlier.now) hints.now) }
-    ensures trail { marks.new ≡ record marks.old { trail = trail_after marks.old.trail (clauses_at (known cnf.now earlier.now) hints.now) } }
+    requires room { length assignment.old.trail + length hints.now ≤ assignment.old.room }
+    ensures fault { result ≡ hints_fault assignment.old.trail (clauses_at (known cnf.now earlier.now) hints.now) }
+    ensures trail { assignment.new ≡ record assignment.old { trail = trail_after assignment.old.trail (clauses_at (known cnf.now earlier.now) hints.now) } }
 {
-    let vars = marks.vars();
+    let vars = assignment.vars();
     let Some((last, others)) = hints.split_last() else {
         return Some(LineWhy::NoHints);
     };
     for hint in others {
         let clause = clause_at(cnf, earlier, *hint as usize);
-        let (rounds, round) = marks.falses();
-        match unit_of(vars, rounds, round, marks.trail(), clause) {
+        let (rounds, round) = assignment.falses();
+        match unit_of(vars, rounds, round, assignment.trail(), clause) {
             None => return Some(LineWhy::NotUnit),
-            Some(lit) => marks.add(lit),
+            Some(lit) => assignment.add(lit),
         }
     }
     let clause = clause_at(cnf, earlier, *last as usize);
-    let (rounds, round) = marks.falses();
-    if all_false(vars, rounds, round, marks.trail(), clause) {
+    let (rounds, round) = assignment.falses();
+    if all_false(vars, rounds, round, assignment.trail(), clause) {
         None
     } else {
         Some(LineWhy::NotFalse)

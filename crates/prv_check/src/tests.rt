@@ -112,24 +112,47 @@ fn checks_logs(rt: HostRuntime) -> Result<(), AllocError> {
     Ok(())
 }
 
-/// Lines that a log of one line may go on with, and that line by itself.
+/// Proofs: what `check_refutation` answers of a log, and what `check_spent` answers of its lines with the
+/// last as the further one.
 #[test]
-fn checks_single_lines(rt: HostRuntime) -> Result<(), AllocError> {
+fn checks_proofs(rt: HostRuntime) -> Result<(), AllocError> {
     let cnf = formula_of(&rt, 2, "1 2; 1 -2; -1 2; -1 -2;")?;
-    let log = log_of(&rt, "1 : 0 1;")?;
-    for (next, want) in [
-        ("2 : 4 2", Ok(())),
-        ("2 : 4 4 2", Err(NextError::RepeatedHint)),
-        ("2 : 4 5", Err(NextError::Refused(LineWhy::BadHint))),
-        ("1 : 0 1", Err(NextError::Refused(LineWhy::Contains))),
+    let unrefuting = |line| Err(RefutationError::BadLine { line });
+    let unspent = |line| Err(SpentError::BadLine { line });
+    for (log, want, want_spent) in [
+        ("1 : 0 1; : 4 2 3;", Ok(()), unspent(1)),
+        ("1 : 0 1; 2 : 4 2;", Err(RefutationError::NoEmpty), Ok(())),
+        ("1 : 0 1; 2 : 4 4 2;", unrefuting(1), unspent(1)),
+        ("1 : 0 1; 2 : 4 5;", unrefuting(1), unspent(1)),
+        ("1 : 0 1; 1 : 0 1; : 4 2 3;", Ok(()), unspent(1)),
+        ("1 : 0 0; 2 : 4 4 2;", unrefuting(0), unspent(0)),
     ] {
-        let next = line_of(&rt, next)?;
-        assert_eq!(rt; check_next(rt.alloc(), &cnf, &log, &next), want, "{next:?}");
+        let log = log_of(&rt, log)?;
+        assert!(rt; log.lines().len() < 100);
+        assert_eq!(rt; check_refutation(rt.alloc(), &cnf, &log), want, "{log:?}");
+        let mut lines = log.into_vec();
+        let next = lines.pop();
+        let log = Log::new(lines);
+        assert!(rt; log.lines().len() < 100);
+        assert_eq!(rt;
+            check_spent(rt.alloc(), &cnf, &log, &next),
+            want_spent,
+            "{log:?} {next:?}"
+        );
     }
+    Ok(())
+}
+
+/// A line in room that was made before.
+#[test]
+fn checks_a_line_in_room(rt: HostRuntime) -> Result<(), AllocError> {
+    let cnf = formula_of(&rt, 2, "1 2; 1 -2;")?;
+    let log = log_of(&rt, "1 : 0 1;")?;
     let lines = log.lines();
     assert!(rt; lines.len() == 1);
     let size = size(&lines[0]);
     assert!(rt; size <= 3);
+    assert_eq!(rt; log.numbers(), 5);
     let mut work = prepare(rt.alloc(), &cnf, 1, 5)?;
     assert_eq!(rt; check_line(&cnf, &log, 0, &mut work), Ok(()));
     Ok(())

@@ -5,10 +5,10 @@ ghost use Rattle.prv_check.specs.LogLines.{line_numbers};
 ghost use Rattle.prv_check.specs.Lines.{line_fault as fault_of};
 ghost use Rattle.prv_check.specs.Logs.{fault_at};
 
+use crate::assignment::Assignment;
 use crate::fault::LineWhy;
 use crate::line::line_fault;
 use crate::log::Log;
-use crate::marks::Marks;
 use prv_cnf::Cnf;
 use std::alloc::{AllocError, Global};
 use std::marker::Model;
@@ -16,8 +16,11 @@ use std::marker::Model;
 /// Room to test lines in, made by [`prepare`].
 #[derive(Debug, Drop)]
 pub struct Work {
-    marks: Marks,
+    /// The true literals while a line is tested; none between two tests.
+    assignment: Assignment,
+    /// The most lines that a log may have.
     lines: u32,
+    /// The most numbers that a line may have.
     numbers: u32,
 }
 
@@ -27,9 +30,9 @@ impl Model for Work {
 
     ghost Value = { Preparation };
 
-    ghost view = { λ w. record { vars = w.marks.vars; lines = w.lines; numbers = w.numbers } };
+    ghost view = { λ w. record { vars = w.assignment.vars; lines = w.lines; numbers = w.numbers } };
 
-    ghost invariant = { λ w. (w.marks.trail ≡ []) × (w.numbers ≤ w.marks.room) };
+    ghost invariant = { λ w. (w.assignment.trail ≡ []) × (w.numbers ≤ w.assignment.room) };
 }
 
 /// Makes room to test lines of a log over the formula's variables: a log of at most so many lines,
@@ -37,9 +40,9 @@ impl Model for Work {
 pub fn prepare(alloc: Global, cnf: &Cnf, lines: u32, numbers: u32) -> Result<Work, AllocError>
     ensures { IfOk result (λ w. w ≡ record { vars = cnf.now.vars; lines = lines; numbers = numbers }) }
 {
-    let marks = Marks::new(alloc, cnf.vars(), numbers as usize)?;
+    let assignment = Assignment::new(alloc, cnf.vars(), numbers as usize)?;
     Ok(Work {
-        marks,
+        assignment,
         lines,
         numbers,
     })
@@ -60,8 +63,8 @@ pub fn check_line(cnf: &Cnf, log: &Log, line: u32, work: &mut Work) -> Result<()
 {
     let at = line as usize;
     let lines = log.lines();
-    let why = line_fault(cnf, &lines[..at], &lines[at], &mut work.marks);
-    work.marks.clear();
+    let why = line_fault(cnf, &lines[..at], &lines[at], &mut work.assignment);
+    work.assignment.clear();
     match why {
         None => Ok(()),
         Some(why) => Err(why),

@@ -4,6 +4,7 @@ use Rattle.prv_model.specs.declared.program.Pair.{Pair}
 use Rattle.prv_board.specs.Replays.{Replay}
 use Rattle.prv_explore.specs.declared.plan.Plan.{Plan}
 use Rattle.prv_gen.specs.Generated.{before_text, after_text}
+use Rattle.prv_line.specs.declared.limits.TheConstants.{TURNS}
 use Rattle.prv_line.specs.Commands.{defaults, Command, Run, Point, Slice, Explore, Live, Resume, Check, Gen}
 use Rattle.prv_line.specs.Readings.{Reads}
 use Rattle.prv_line.proofs.Uniqueness.{one_reading}
@@ -165,8 +166,8 @@ does-related told (Resume journal lines settlements workers) all =
     related-single (AreExplorations (Resume journal lines settlements workers)) told (does (Resume journal lines settlements workers)) (single-does told (Resume journal lines settlements workers) all (λ never. never))
 does-related told (Check journal) all = related-single (AreExplorations (Check journal)) told (does (Check journal)) (single-does told (Check journal) all (λ never. never))
 does-related told (Gen number size) all =
-    explored-related (Gen number size) told (pair_of_texts 32 (before_text number size) (after_text number size)) (generated_report number size) (plan_of defaults)
-    (single-texts told 32 (before_text number size) (after_text number size)) (λ pair shown shows. shows)
+    explored-related (Gen number size) told (pair_of_texts TURNS.default (before_text number size) (after_text number size)) (generated_report number size) (plan_of defaults)
+    (single-texts told TURNS.default (before_text number size) (after_text number size)) (λ pair shown shows. shows)
 
 -- two answers of a command's words are alike
 pub alike-says : (told : Told) (words : List (List ℕ)) (c : Command) → AllTold told → Reads c words → (t u : Trace) (a b : Result Status Refusal) → says words told t a → says words told u b → AreAlike c t a u b

@@ -2,11 +2,12 @@
 use Rattle.std.proofs.Common.{◌≡◌, ◌≢◌, ◌⊎◌, inl, inr, ℕ, ◌≤◌, List, length, ℤ, Result, Ok, Err, refl, sym, ap, ◌∙◌, subst, arith}
 use Rattle.prv_io.specs.Files.{Known, Absent, Holds, Unknown, MayHold, MayBeLonger}
 use Rattle.prv_model.specs.declared.limits.TheConstants.{MAX_FILE}
+use Rattle.prv_lex.specs.declared.error.LexError.TheVariants as lex
 use Rattle.prv_lex.specs.declared.error.LexWhy.TheVariants.{Long}
 use Rattle.prv_names.specs.declared.version.Version.{Version}
 use Rattle.prv_version.specs.Versions.{GivesVersion, IsFileRefused}
-use Rattle.prv_version.specs.declared.error.FileRefusal.{FileRefusal}
-use Rattle.prv_version.specs.declared.error.FileRefusal.TheVariants as file
+use Rattle.prv_version.specs.declared.error.VersionError.{VersionError}
+use Rattle.prv_version.specs.declared.error.VersionError.TheVariants as file
 use Rattle.prv_version.proofs.OneAnswer.{given-not_refused, refused-one}
 use Rattle.prv_version.proofs.OneVersion.{one-version}
 use Rattle.prv_cli.specs.Steps.{Told, Trace, ◌∙∙◌, Step, Passes, ◌>>=◌, answers, write, Shown, writes}
@@ -124,10 +125,10 @@ single-writes told shown = single-then told (write shown.text) (λ _. answers (�
 
 -- a refusal of a read: a fault or want of memory, or that the file is too long
 abbrev TooLong : Who → Known → Refusal → Type 0
-TooLong who known e = IsFree e ⊎ ((e ≡ refusal.File who (file.Lex MAX_FILE Long)) × MayBeLonger MAX_FILE known)
+TooLong who known e = IsFree e ⊎ ((e ≡ refusal.File who (file.Lex (lex.Refused MAX_FILE Long))) × MayBeLonger MAX_FILE known)
 
 read-refusal : (who : Who) (known : Known) (e : Refusal) → IsRead who known (Err e) → TooLong who known e
-read-refusal who known (refusal.File w why) (one, same, long) = inr (ap (λ (x : Who). refusal.File x why) one ∙ ap (λ (y : FileRefusal). refusal.File who y) same, long)
+read-refusal who known (refusal.File w why) (one, same, long) = inr (ap (λ (x : Who). refusal.File x why) one ∙ ap (λ (y : VersionError). refusal.File who y) same, long)
 read-refusal who known refusal.Read h = inl tt
 read-refusal who known refusal.Memory h = inl tt
 read-refusal who known (refusal.Usage word) h = absurd h
@@ -169,7 +170,7 @@ single-read told who name known t u (Err e) (Err f) (s, x) (s', y) = by (read-re
 
 -- a refusal of bytes: want of memory, or that the file is refused
 abbrev Refused : Who → List ℕ → Refusal → Type 0
-Refused who bytes e = IsFree e ⊎ ((why : FileRefusal) × (e ≡ refusal.File who why) × IsFileRefused bytes why)
+Refused who bytes e = IsFree e ⊎ ((why : VersionError) × (e ≡ refusal.File who why) × IsFileRefused bytes why)
 
 version-refusal : (who : Who) (bytes : List ℕ) (e : Refusal) → GivesNone who bytes e → Refused who bytes e
 version-refusal who bytes (refusal.File w why) (one, is) = inr (why, ap (λ (x : Who). refusal.File x why) one, is)
@@ -198,7 +199,7 @@ single-version_of told who bytes = single-answers told (GivesVersion bytes) (Giv
         by : Refused who bytes e → Refused who bytes f → AgreeRefusals e f
         by (inl free) other = inr (inl free)
         by (inr same) (inl free) = inr (inr free)
-        by (inr (why, same, is)) (inr (how, equal, too)) = inl (same ∙ ap (λ (w : FileRefusal). refusal.File who w) (refused-one bytes why how is too) ∙ sym equal)
+        by (inr (why, same, is)) (inr (how, equal, too)) = inl (same ∙ ap (λ (w : VersionError). refusal.File who w) (refused-one bytes why how is too) ∙ sym equal)
 
 pub single-version : (told : Told) (who : Who) (name : List ℕ) → told name ≢ Unknown → Single told (version who name)
 single-version told who name known = single-then told (read_file who name) (version_of who) (single-read told who name known) (single-version_of told who)

@@ -6,6 +6,7 @@ use Rattle.prv_model.specs.Programs.{IsPair}
 use Rattle.prv_model.specs.declared.program.Program.{Program}
 use Rattle.prv_model.specs.declared.program.Pair.{Pair}
 use Rattle.prv_model.specs.declared.entry.Entry.{Entry}
+use Rattle.prv_line.specs.declared.limits.TheConstants.{TURNS}
 use Rattle.prv_line.specs.Commands.{Command, Run, Point, Slice, Explore, Live, Resume, Check, Gen}
 use Rattle.prv_line.specs.Readings.{Reads}
 use Rattle.prv_line.specs.Usages.{IsUsage}
@@ -107,7 +108,7 @@ memory-free e is = subst (λ x. IsFree x) (sym is) tt
 
 single-point : (told : Told) (before after : List ℕ) (input : List ℤ) → AllTold told → Single told (point before after input)
 single-point told before after input all =
-    single-then told (pair_of_files 32 before after) _ (single-files told 32 before after all) (λ pair.
+    single-then told (pair_of_files TURNS.default before after) _ (single-files told TURNS.default before after all) (λ pair.
     single-then told (fits input pair.before.params) _ (single-fits told input pair.before.params) (λ _.
     single-answers told (IsPoint pair input) IsMemory (one-point pair input) (λ a e x y. memory-free e y) (λ e f x y. inr (inl (memory-free e x)))))
 

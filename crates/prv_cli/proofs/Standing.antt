@@ -6,6 +6,7 @@ use Rattle.std.proofs.lemmas.List.Elements.{All-from_recursion}
 use Rattle.prv_model.specs.declared.term.Term.{Term}
 use Rattle.prv_model.specs.declared.outcome.Ending.{Ending}
 use Rattle.prv_model.specs.declared.program.Program.{Program}
+use Rattle.prv_line.specs.declared.limits.TheConstants.{TURNS}
 use Rattle.prv_pool.specs.Tables.{Table, IsTable, term_at, add_terms}
 use Rattle.prv_pool.proofs.NodeLemmas.{get-within, term_at-some}
 use Rattle.prv_sym.specs.Calls.{AllStand}
@@ -48,15 +49,15 @@ slice-stands terms s t is =
 
 -- the table is large enough
 pub nodes-within : (program : Program) (input : List ℤ) (before after : Table) → before ≡ record { terms = []; max_nodes = 20000 } →
-    after.terms ≡ add_terms before.terms (slice_named program 32 input) → after.max_nodes ≡ before.max_nodes → IsTable after → node_count program input ≤ 20000
+    after.terms ≡ add_terms before.terms (slice_named program TURNS.default input) → after.max_nodes ≡ before.max_nodes → IsTable after → node_count program input ≤ 20000
 nodes-within program input before after empty grows limit table =
-    let grown : after.terms ≡ add_terms [] (slice_named program 32 input) = grows ∙ ap (λ (t : Table). add_terms t.terms (slice_named program 32 input)) empty in
+    let grown : after.terms ≡ add_terms [] (slice_named program TURNS.default input) = grows ∙ ap (λ (t : Table). add_terms t.terms (slice_named program TURNS.default input)) empty in
     let most : after.max_nodes ≡ 20000 = limit ∙ ap (λ (t : Table). t.max_nodes) empty in
     omega (arith, ap length grown, table.within)
 
 -- what is answered of a slice that is within both bounds
 pub shows-within : (told : Told) (program : Program) (input : List ℤ) (s : Slice) (answer : Result Shown Refusal) →
-    node_count program input ≤ 20000 → literal_count program input ≤ 1024 → s ≡ slice_of program 32 input →
+    node_count program input ≤ 20000 → literal_count program input ≤ 1024 → s ≡ slice_of program TURNS.default input →
     IfOk answer (λ shown. shown ≡ slice_shown program s) → IfErr answer (λ why. why ≡ Memory) → show_slice program input told nothing answer
 shows-within told program input s (Ok shown) nodes literals is ok err = (refl, record { nodes = nodes; literals = literals; shown_is = ok ∙ ap (slice_shown program) is })
 shows-within told program input s (Err why) nodes literals is ok err = (refl, subst (λ (e : Refusal). ShowsNone program input e) (sym err) tt)

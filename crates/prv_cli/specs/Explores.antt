@@ -4,12 +4,10 @@ use Rattle.prv_model.specs.declared.program.Pair.{Pair}
 use Rattle.prv_line.specs.Commands.{Settings}
 use Rattle.prv_board.specs.Replays.{Replay}
 use Rattle.prv_board.specs.Legality.{IsLegalBoard}
+use Rattle.prv_board.specs.declared.ended.Ended.{Ended}
 use Rattle.prv_explore.specs.Explorations.{IsExploration}
 use Rattle.prv_explore.specs.declared.plan.Plan.{Plan}
-use Rattle.prv_explore.specs.declared.plan.Ended.{Ended}
-use Rattle.prv_explore.specs.declared.plan.Ended.TheVariants as ended
 use Rattle.prv_text.specs.Boards.{board_report}
-use Rattle.prv_text.specs.declared.last.Ended.TheVariants as text
 use Rattle.prv_text.specs.declared.last.Last.{Last}
 use Rattle.prv_text.specs.declared.last.Last.TheVariants as last
 use Rattle.prv_cli.specs.Statuses.{board_status}
@@ -21,19 +19,13 @@ use Rattle.prv_cli.specs.Pairings.{pair_of_files}
 abbrev pub plan_of : Settings → Plan
 plan_of settings = record { lines = settings.lines; settlements = settings.settlements }
 
--- what the last line says of an exploration
-abbrev pub last_of : Plan → Ended → Last
-last_of plan ended.Done = last.Ended text.Done
-last_of plan ended.Settlements = last.Ended (text.Settlements plan.settlements)
-last_of plan (ended.Full entries numbers literals) = last.Ended (text.Full entries numbers literals)
-
 -- an exploration of the pair by the plan, whose board is legal, is shown by this text, with the status of its board
 pub record ShowsExploration (text_of : Replay → Last → List ℕ) (plan : Plan) (pair : Pair) (shown : Shown) : Type 0 where
   pub board : Replay
   pub ended : Ended
   pub explored : IsExploration pair plan board ended
   pub legal : IsLegalBoard board
-  pub shown_is : shown ≡ record { text = text_of board (last_of plan ended); status = board_status board }
+  pub shown_is : shown ≡ record { text = text_of board (last.Ended ended); status = board_status board }
 
 -- some exploration is shown: which, is up to what the solver finds
 abbrev pub show_exploration : (Replay → Last → List ℕ) → Plan → Pair → Step Shown

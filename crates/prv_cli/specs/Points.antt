@@ -1,9 +1,10 @@
--- `point OLD NEW N..`: how the versions of two files compare at an input, with 32 turns.
+-- `point OLD NEW N..`: how the versions of two files compare at an input, with the turns that hold where no option is given.
 use Rattle.std.specs.Prelude.{◌≡◌, ℕ, List, ℤ}
 use Rattle.prv_model.specs.declared.program.Pair.{Pair}
 use Rattle.prv_model.specs.declared.entry.Entry.{Entry}
 use Rattle.prv_model.specs.Comparison.{verdict}
 use Rattle.prv_model.specs.Boards.{IsLegal, FirstHoldsOnly}
+use Rattle.prv_line.specs.declared.limits.TheConstants.{TURNS}
 use Rattle.prv_run.specs.Points.{point as point_entries}
 use Rattle.prv_text.specs.Reports.{point_report}
 use Rattle.prv_cli.specs.Statuses.{entries_status}
@@ -24,6 +25,6 @@ show_point pair input = answers (IsPoint pair input) IsMemory
 
 abbrev pub point : List ℕ → List ℕ → List ℤ → Step Shown
 point before after input = do
-  pair ← pair_of_files 32 before after
+  pair ← pair_of_files TURNS.default before after
   fits input pair.before.params
   show_point pair input

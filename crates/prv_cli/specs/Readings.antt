@@ -2,10 +2,11 @@
 use Rattle.std.specs.Prelude.{◌≡◌, ◌≢◌, ℕ, ◌≤◌, List, [], ◌∷◌, length, ℤ, ⊤, Result, Ok, Err}
 use Rattle.prv_io.specs.Files.{Known, MayHold, MayBeLonger}
 use Rattle.prv_model.specs.declared.limits.TheConstants.{MAX_FILE}
+use Rattle.prv_lex.specs.declared.error.LexError.TheVariants.{Refused}
 use Rattle.prv_lex.specs.declared.error.LexWhy.TheVariants.{Long}
 use Rattle.prv_names.specs.declared.version.Version.{Version}
 use Rattle.prv_version.specs.Versions.{GivesVersion, IsFileRefused}
-use Rattle.prv_version.specs.declared.error.FileRefusal.TheVariants as file
+use Rattle.prv_version.specs.declared.error.VersionError.TheVariants.{Lex}
 use Rattle.prv_cli.specs.Steps.{Step, reading, answers, ◌>>=◌}
 use Rattle.prv_cli.specs.declared.refusal.Who.{Who}
 use Rattle.prv_cli.specs.declared.refusal.Refusal.{Refusal}
@@ -15,7 +16,7 @@ use Rattle.prv_cli.specs.declared.refusal.Refusal.TheVariants as refusal
 -- So the answer for a file that is known to be absent is that the read failed.
 abbrev pub IsRead : Who → Known → Result (List ℕ) Refusal → Type 0
 IsRead who known (Ok bytes) = MayHold known bytes × (length bytes ≤ MAX_FILE)
-IsRead who known (Err (refusal.File w why)) = (w ≡ who) × (why ≡ file.Lex MAX_FILE Long) × MayBeLonger MAX_FILE known
+IsRead who known (Err (refusal.File w why)) = (w ≡ who) × (why ≡ Lex (Refused MAX_FILE Long)) × MayBeLonger MAX_FILE known
 IsRead who known (Err refusal.Read) = ⊤
 IsRead who known (Err refusal.Memory) = ⊤
 IsRead who known (Err _) = ⊥

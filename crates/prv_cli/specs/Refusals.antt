@@ -1,15 +1,21 @@
 -- Refusals: their statuses and their lines.
 use Rattle.std.specs.Prelude.{ℕ, List, ◌++◌, codes, decimal}
+use Rattle.prv_lex.specs.declared.error.LexError.{LexError}
+use Rattle.prv_lex.specs.declared.error.LexError.TheVariants as lex
 use Rattle.prv_lex.specs.declared.error.LexWhy.{LexWhy}
 use Rattle.prv_lex.specs.declared.error.LexWhy.TheVariants.{Long, Byte, Number, NameLong, Comment}
+use Rattle.prv_parse.specs.declared.error.ParseError.{ParseError}
+use Rattle.prv_parse.specs.declared.error.ParseError.TheVariants as parse
+use Rattle.prv_names.specs.declared.error.NameError.{NameError}
+use Rattle.prv_names.specs.declared.error.NameError.TheVariants as name
 use Rattle.prv_names.specs.declared.error.What.{What}
 use Rattle.prv_names.specs.declared.error.What.TheVariants.{Params, Vars, Stmts}
 use Rattle.prv_marks.specs.declared.error.Side.{Side}
 use Rattle.prv_marks.specs.declared.error.Side.TheVariants.{Before, After}
 use Rattle.prv_marks.specs.declared.error.PairError.{PairError}
 use Rattle.prv_marks.specs.declared.error.PairError.TheVariants as pair
-use Rattle.prv_version.specs.declared.error.FileRefusal.{FileRefusal}
-use Rattle.prv_version.specs.declared.error.FileRefusal.TheVariants as file
+use Rattle.prv_version.specs.declared.error.VersionError.{VersionError}
+use Rattle.prv_version.specs.declared.error.VersionError.TheVariants as version
 use Rattle.prv_text.specs.Lines.{line}
 use Rattle.prv_cli.specs.declared.refusal.Who.{Who}
 use Rattle.prv_cli.specs.declared.refusal.Who.TheVariants.{Old, New, Only}
@@ -48,14 +54,26 @@ what_text Params = codes "params"
 what_text Vars = codes "vars"
 what_text Stmts = codes "stmts"
 
-abbrev pub file_text : FileRefusal → List ℕ
-file_text (file.Lex place why) = codes "lex " ++ lex_text why ++ codes " at " ++ decimal place
-file_text (file.Syntax place) = codes "syntax at " ++ decimal place
-file_text (file.Deep place) = codes "deep at " ++ decimal place
-file_text (file.Unknown place) = codes "name unknown at " ++ decimal place
-file_text (file.Twice place) = codes "name twice at " ++ decimal place
-file_text (file.NotInScope place) = codes "name scope at " ++ decimal place
-file_text (file.TooMany what count) = codes "too many " ++ what_text what ++ codes " " ++ decimal count
+abbrev pub lexer_text : LexError → List ℕ
+lexer_text (lex.Refused place why) = codes "lex " ++ lex_text why ++ codes " at " ++ decimal place
+lexer_text lex.Memory = codes "memory"
+
+abbrev pub parser_text : ParseError → List ℕ
+parser_text (parse.Syntax place) = codes "syntax at " ++ decimal place
+parser_text (parse.Deep place) = codes "deep at " ++ decimal place
+parser_text parse.Memory = codes "memory"
+
+abbrev pub names_text : NameError → List ℕ
+names_text (name.Unknown place) = codes "name unknown at " ++ decimal place
+names_text (name.Twice place) = codes "name twice at " ++ decimal place
+names_text (name.NotInScope place) = codes "name scope at " ++ decimal place
+names_text (name.TooMany what count) = codes "too many " ++ what_text what ++ codes " " ++ decimal count
+names_text name.Memory = codes "memory"
+
+abbrev pub version_text : VersionError → List ℕ
+version_text (version.Lex why) = lexer_text why
+version_text (version.Parse why) = parser_text why
+version_text (version.Name why) = names_text why
 
 abbrev pub side_text : Side → List ℕ
 side_text Before = codes "old"
@@ -74,7 +92,7 @@ pair_text (pair.Unmarked before after) = codes "pair: unmarked at " ++ decimal b
 abbrev pub refusal_text : Refusal → List ℕ
 refusal_text (refusal.Usage word) = codes "usage: word " ++ decimal word
 refusal_text refusal.Later = codes "later"
-refusal_text (refusal.File who why) = who_text who ++ codes ": " ++ file_text why
+refusal_text (refusal.File who why) = who_text who ++ codes ": " ++ version_text why
 refusal_text (refusal.Pair why) = pair_text why
 refusal_text (refusal.Inputs given wanted) = codes "inputs " ++ decimal given ++ codes " wanted " ++ decimal wanted
 refusal_text (refusal.Slice bound) = codes "slice " ++ bound_text bound

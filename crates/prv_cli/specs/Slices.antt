@@ -1,6 +1,7 @@
--- `slice FILE N..`: the slice of the program of a file at an input, with 32 turns and a table of 20,000 nodes.
+-- `slice FILE N..`: the slice of the program of a file at an input, with the turns that hold where no option is given and a table of 20,000 nodes.
 use Rattle.std.specs.Prelude.{◌≡◌, ℕ, ◌<◌, ◌≤◌, List, [], length, ℤ, ⊤}
 use Rattle.prv_model.specs.declared.program.Program.{Program}
+use Rattle.prv_line.specs.declared.limits.TheConstants.{TURNS}
 use Rattle.prv_pool.specs.Tables.{add_terms}
 use Rattle.prv_general.specs.Slices.{Slice, slice as slice_of, slice_named}
 use Rattle.prv_text.specs.Slices.{slice_text}
@@ -15,11 +16,11 @@ use Rattle.prv_cli.specs.declared.refusal.Refusal.TheVariants as refusal
 
 -- how many nodes the terms of a slice take
 abbrev pub node_count : Program → List ℤ → ℕ
-node_count program input = length (add_terms [] (slice_named program 32 input))
+node_count program input = length (add_terms [] (slice_named program TURNS.default input))
 
 -- how many literals a slice has
 abbrev pub literal_count : Program → List ℤ → ℕ
-literal_count program input = length (slice_of program 32 input).literals
+literal_count program input = length (slice_of program TURNS.default input).literals
 
 -- what is shown of a slice
 abbrev pub slice_shown : Program → Slice → Shown
@@ -29,7 +30,7 @@ slice_shown program s = record { text = slice_text program.names s.literals s.ou
 pub record ShowsSlice (program : Program) (input : List ℤ) (shown : Shown) : Type 0 where
   pub nodes : node_count program input ≤ 20000
   pub literals : literal_count program input ≤ 1024
-  pub shown_is : shown ≡ slice_shown program (slice_of program 32 input)
+  pub shown_is : shown ≡ slice_shown program (slice_of program TURNS.default input)
 
 -- the bound that it passes: that on nodes; or that on literals alone
 abbrev pub PassesBound : Program → List ℤ → Bound → Type 0

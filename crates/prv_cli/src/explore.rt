@@ -1,27 +1,28 @@
 //! `explore OLD NEW`
 ghost use Rattle.std.specs.Prelude.{◌≡◌, ◌≤◌, IsErrOf, IfOk};
 ghost use Rattle.prv_io.specs.Faults.{Rose};
+ghost use Rattle.prv_model.specs.declared.limits.TheConstants.{MAX_TURNS};
 ghost use Rattle.prv_settle.specs.declared.limits.TheConstants.{MAX_LINES};
 ghost use Rattle.prv_board.specs.Legality.{IsLegalBoard};
 ghost use Rattle.prv_explore.specs.Explorations.{IsExploration};
 ghost use Rattle.prv_text.specs.Boards.{board_report};
 ghost use Rattle.prv_cli.specs.Steps.{Told, nothing};
-ghost use Rattle.prv_cli.specs.Explores.{last_of as last_is, show_exploration, explore_with};
+ghost use Rattle.prv_cli.specs.Explores.{show_exploration, explore_with};
 ghost use Rattle.prv_cli.specs.Answers.{Follows, UnlessRead};
 
 use crate::pairing::load_pair;
 use crate::refusal::Refusal;
 use crate::report::Report;
 use crate::status::board_status;
-use prv_explore::{Ended, Explored, Plan, Progress, explore};
+use prv_explore::{Explored, Plan, Progress, explore};
 use prv_io::Files;
 use prv_line as line;
 use prv_model::Pair;
-use prv_text::{self as text, Last, report};
+use prv_text::{Last, report};
 use std::alloc::{AllocError, Global};
 use std::sync::Arc;
 
-/// What is found of the pair of two files over all inputs. Its turns are 1 to 256.
+/// What is found of the pair of two files over all inputs. Its turns are 1 to `MAX_TURNS`.
 pub fn explore_files<F: Files, P: Progress>(
     alloc: Global,
     files: &mut F,
@@ -32,7 +33,7 @@ pub fn explore_files<F: Files, P: Progress>(
     progress: &mut P,
 ) -> Result<Report, Refusal>
     requires some_turns { 1 ≤ turns }
-    requires few_turns { turns ≤ 256 }
+    requires few_turns { turns ≤ MAX_TURNS }
     requires some_lines { 1 ≤ plan.lines }
     requires few_lines { plan.lines ≤ MAX_LINES }
     ensures read_fault { IsErrOf result Refusal.Read → Rose (F.faults files.old) (F.faults files.new) }
@@ -56,7 +57,7 @@ fn show_explored<P: Progress>(
     ensures no_read { IsErrOf result Refusal.Read → ⊥ }
 {
     let explored = explore_pair(alloc, pair, plan, progress)?;
-    let last = last_of(plan, explored.ended);
+    let last = Last::Ended(explored.ended);
     let text = report(alloc, &explored.board, &last)?;
     let status = board_status(&explored.board);
     Ok(Report { text, status })
@@ -75,27 +76,6 @@ pub fn explore_pair<P: Progress>(
     ensures legal { IfOk result (λ e. IsLegalBoard e.board.replay) }
 {
     explore(alloc, Arc::new(alloc, pair)?, plan, progress)
-}
-
-/// What the last line says of an exploration.
-pub fn last_of(plan: Plan, ended: Ended) -> Last
-    ensures { result ≡ last_is plan ended }
-{
-    match ended {
-        Ended::Done => Last::Ended(text::Ended::Done),
-        Ended::Settlements => Last::Ended(text::Ended::Settlements {
-            limit: plan.settlements,
-        }),
-        Ended::Full {
-            entries,
-            numbers,
-            literals,
-        } => Last::Ended(text::Ended::Full {
-            entries,
-            numbers,
-            literals,
-        }),
-    }
 }
 
 /// The plan of a command.

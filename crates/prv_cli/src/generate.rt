@@ -5,24 +5,22 @@ ghost use Rattle.prv_cli.specs.Steps.{Told, nothing};
 ghost use Rattle.prv_cli.specs.Generates.{generate as generate_is};
 ghost use Rattle.prv_cli.specs.Explores.{show_exploration};
 
-use crate::explore::{explore_pair, last_of};
+use crate::explore::explore_pair;
 use crate::pairing::pair_of_bytes;
 use crate::refusal::Refusal;
 use crate::report::Report;
 use crate::status::board_status;
 use prv_explore::{Plan, Progress};
 use prv_gen::generate;
+use prv_line::{LINES, SETTLEMENTS, TURNS};
 use prv_model::Pair;
-use prv_text::report_generated;
+use prv_text::{Last, report_generated};
 use std::alloc::Global;
-
-/// The bound on the turns of each run.
-const TURNS: u32 = 32;
 
 /// How much work is done.
 const PLAN: Plan = Plan {
-    lines: 2_000,
-    settlements: 1_000,
+    lines: LINES.default,
+    settlements: SETTLEMENTS.default,
 };
 
 /// What is found of a generated pair over all inputs. The size is 1 to 50.
@@ -43,7 +41,7 @@ pub fn explore_generated<P: Progress>(
         alloc,
         texts.before.as_slice(),
         texts.after.as_slice(),
-        TURNS,
+        TURNS.default,
     )?;
     show_generated(alloc, number, size, pair, progress)
 }
@@ -61,7 +59,7 @@ fn show_generated<P: Progress>(
     ensures no_write { IsErrOf result Refusal.Write → ⊥ }
 {
     let explored = explore_pair(alloc, pair, PLAN, progress)?;
-    let last = last_of(PLAN, explored.ended);
+    let last = Last::Ended(explored.ended);
     let text = report_generated(alloc, number, size, &explored.board, &last)?;
     let status = board_status(&explored.board);
     Ok(Report { text, status })

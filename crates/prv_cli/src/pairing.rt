@@ -1,6 +1,7 @@
 //! Pairs of versions.
 ghost use Rattle.std.specs.Prelude.{◌≡◌, ◌≤◌, IsErrOf};
 ghost use Rattle.prv_io.specs.Faults.{Rose};
+ghost use Rattle.prv_model.specs.declared.limits.TheConstants.{MAX_TURNS};
 ghost use Rattle.prv_cli.specs.Steps.{Told, nothing};
 ghost use Rattle.prv_cli.specs.Pairings.{pair_of as pair_is, pair_of_files, pair_of_texts};
 ghost use Rattle.prv_cli.specs.Answers.{Follows, UnlessRead};
@@ -13,7 +14,7 @@ use prv_model::Pair;
 use prv_names::Version;
 use std::alloc::Global;
 
-/// The pair that two files give. Its turns are 1 to 256.
+/// The pair that two files give. Its turns are 1 to `MAX_TURNS`.
 pub fn load_pair<F: Files>(
     alloc: Global,
     files: &mut F,
@@ -22,7 +23,7 @@ pub fn load_pair<F: Files>(
     turns: u32,
 ) -> Result<Pair, Refusal>
     requires some { 1 ≤ turns }
-    requires few { turns ≤ 256 }
+    requires few { turns ≤ MAX_TURNS }
     ensures read_fault { IsErrOf result Refusal.Read → Rose (F.faults files.old) (F.faults files.new) }
     ensures no_read_fault { UnlessRead result (F.faults files.new ≡ F.faults files.old) }
     ensures done { Follows F.reads (F.known files.old) files.old files.new (pair_of_files turns before.now after.now) result }
@@ -32,7 +33,7 @@ pub fn load_pair<F: Files>(
     pair_of(old, new, turns)
 }
 
-/// The pair that two texts give. Its turns are 1 to 256.
+/// The pair that two texts give. Its turns are 1 to `MAX_TURNS`.
 pub fn pair_of_bytes(
     alloc: Global,
     before: &[u8],
@@ -40,7 +41,7 @@ pub fn pair_of_bytes(
     turns: u32,
 ) -> Result<Pair, Refusal>
     requires some { 1 ≤ turns }
-    requires few { turns ≤ 256 }
+    requires few { turns ≤ MAX_TURNS }
     ensures done { (told : Told) → pair_of_texts turns before.now after.now told nothing result }
     ensures no_read { IsErrOf result Refusal.Read → ⊥ }
     ensures no_write { IsErrOf result Refusal.Write → ⊥ }
@@ -50,10 +51,10 @@ pub fn pair_of_bytes(
     pair_of(old, new, turns)
 }
 
-/// The pair of two versions. Its turns are 1 to 256.
+/// The pair of two versions. Its turns are 1 to `MAX_TURNS`.
 fn pair_of(before: Version, after: Version, turns: u32) -> Result<Pair, Refusal>
     requires some { 1 ≤ turns }
-    requires few { turns ≤ 256 }
+    requires few { turns ≤ MAX_TURNS }
     ensures paired { (told : Told) → pair_is turns before after told nothing result }
     ensures no_read { IsErrOf result Refusal.Read → ⊥ }
     ensures no_write { IsErrOf result Refusal.Write → ⊥ }

@@ -11,13 +11,11 @@ use crate::refusal::Refusal;
 use crate::report::Report;
 use crate::status::entries_status;
 use prv_io::Files;
+use prv_line::TURNS;
 use prv_model::{Input, Pair};
 use prv_run::point_entries;
 use prv_text::report_entries;
 use std::alloc::Global;
-
-/// The bound on the turns of each run.
-const TURNS: u32 = 32;
 
 /// How the versions of two files compare at an input.
 pub fn compare_at<F: Files>(
@@ -31,7 +29,7 @@ pub fn compare_at<F: Files>(
     ensures no_read_fault { UnlessRead result (F.faults files.new ≡ F.faults files.old) }
     ensures done { Follows F.reads (F.known files.old) files.old files.new (point before.now after.now input.now) result }
 {
-    let pair = load_pair(alloc, files, before, after, TURNS)?;
+    let pair = load_pair(alloc, files, before, after, TURNS.default)?;
     fit(input, pair.before.params)?;
     show_point(alloc, &pair, input)
 }

@@ -14,7 +14,9 @@ const WIPE: &str = "\r\x1b[K";
 /// and is wiped at the end. Where the clock fails or the line can't be written, less is shown.
 #[derive(Drop)]
 pub struct TerminalProgress<W: Write, C: Clock> {
+    /// Where the line is written.
     out: W,
+    /// What tells the time.
     clock: C,
     /// When it began. None where nothing is shown.
     begun: Option<Instant>,

@@ -1,9 +1,11 @@
+//! Why the program doesn't show what it is asked for. A refusal has no memory of its own; its status and its line
+//! come from it alone.
 ghost use Rattle.std.specs.Prelude.{◌≡◌};
 ghost use Rattle.prv_cli.specs.Refusals.{refusal_number};
 ghost use Rattle.prv_cli.specs.declared.refusal.Refusal.TheVariants.{Memory};
 
 use prv_marks::PairError;
-use prv_version::FileRefusal;
+use prv_version::VersionError;
 use std::alloc::AllocError;
 
 /// The file that a refusal names.
@@ -27,14 +29,14 @@ pub enum Bound {
 }
 
 /// Why the program doesn't show what it is asked for.
-#[derive(Clone, Copy, Debug, PartialEq, Eq)]
+#[derive(Debug, Drop)]
 pub enum Refusal {
     /// The words have no reading; it is refused at this word.
     Usage { word: u32 },
     /// The command isn't built yet.
     Later,
-    /// A file is refused.
-    File { who: Who, why: FileRefusal },
+    /// A file is refused, and not for want of memory.
+    File { who: Who, why: VersionError },
     /// The versions make no pair.
     Pair(PairError),
     /// The input has another number of words than the program has parameters.
@@ -59,8 +61,8 @@ impl From<AllocError> for Refusal {
 
 impl Refusal {
     /// The number with which the program ends.
-    pub fn number(self) -> u8
-        ensures { result ≡ refusal_number self }
+    pub fn number(&self) -> u8
+        ensures { result ≡ refusal_number self.now }
     {
         match self {
             Refusal::Usage { word: _ } | Refusal::Later => 3,

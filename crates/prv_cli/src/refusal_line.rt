@@ -1,15 +1,16 @@
 //! The lines of refusals. They take no memory.
 ghost use Rattle.std.specs.Prelude.{◌≡◌, ◌≤◌, ◌+◌, ◌++◌, length};
 ghost use Rattle.arrayvec.specs.ArrayString.{array_string_len};
-ghost use Rattle.prv_cli.specs.Refusals.{who_text, lex_text, what_text, file_text, side_text, bound_text, pair_text, refusal_text, refusal_line};
+ghost use Rattle.prv_cli.specs.Refusals.{who_text, lex_text, what_text, lexer_text, parser_text, names_text, version_text, side_text, bound_text, pair_text, refusal_text, refusal_line};
 
 use crate::refusal::{Bound, Refusal, Who};
 use arrayvec::ArrayString;
 use itoa::{Buffer, Integer};
-use prv_lex::LexWhy;
+use prv_lex::{LexError, LexWhy};
 use prv_marks::{PairError, Side};
-use prv_names::What;
-use prv_version::FileRefusal;
+use prv_names::{NameError, What};
+use prv_parse::ParseError;
+use prv_version::VersionError;
 
 /// Room for each line: two numbers of at most 40 digits and fewer than 60 other bytes.
 const LINE_BYTES: usize = 160;
@@ -18,8 +19,8 @@ const LINE_BYTES: usize = 160;
 pub type Line = ArrayString<LINE_BYTES>;
 
 /// The line of a refusal.
-pub fn line_of(refusal: Refusal) -> Line
-    ensures { result.bytes ≡ refusal_line refusal }
+pub fn line_of(refusal: &Refusal) -> Line
+    ensures { result.bytes ≡ refusal_line refusal.now }
 {
     let mut line = Line::new();
     line.push_str("prv: ");
@@ -28,27 +29,27 @@ pub fn line_of(refusal: Refusal) -> Line
     line
 }
 
-fn push_refusal(line: &mut Line, refusal: Refusal)
+fn push_refusal(line: &mut Line, refusal: &Refusal)
     requires { array_string_len line.old ≤ 5 }
-    ensures text { line.new.bytes ≡ line.old.bytes ++ refusal_text refusal }
+    ensures text { line.new.bytes ≡ line.old.bytes ++ refusal_text refusal.now }
     ensures short { array_string_len line.new ≤ 150 }
 {
     match refusal {
-        Refusal::Usage { word } => push_labelled(line, "usage: word ", word),
+        Refusal::Usage { word } => push_labelled(line, "usage: word ", *word),
         Refusal::Later => line.push_str("later"),
         Refusal::File { who, why } => {
-            line.push_str(who_str(who));
+            line.push_str(who_str(*who));
             line.push_str(": ");
-            push_file_refusal(line, why);
+            push_version_error(line, why);
         }
-        Refusal::Pair(why) => push_pair_error(line, why),
+        Refusal::Pair(why) => push_pair_error(line, *why),
         Refusal::Inputs { given, wanted } => {
-            push_labelled(line, "inputs ", given);
-            push_labelled(line, " wanted ", wanted);
+            push_labelled(line, "inputs ", *given);
+            push_labelled(line, " wanted ", *wanted);
         }
         Refusal::Slice(bound) => {
             line.push_str("slice ");
-            line.push_str(bound_str(bound));
+            line.push_str(bound_str(*bound));
         }
         Refusal::Read => line.push_str("read fault"),
         Refusal::Write => line.push_str("write fault"),
@@ -56,27 +57,60 @@ fn push_refusal(line: &mut Line, refusal: Refusal)
     }
 }
 
-fn push_file_refusal(line: &mut Line, why: FileRefusal)
+fn push_version_error(line: &mut Line, why: &VersionError)
     requires { array_string_len line.old ≤ 20 }
-    ensures text { line.new.bytes ≡ line.old.bytes ++ file_text why }
+    ensures text { line.new.bytes ≡ line.old.bytes ++ version_text why.now }
     ensures short { array_string_len line.new ≤ array_string_len line.old + 70 }
 {
     match why {
-        FileRefusal::Lex { place, why } => {
+        VersionError::Lex(why) => push_lex_error(line, why),
+        VersionError::Parse(why) => push_parse_error(line, why),
+        VersionError::Name(why) => push_name_error(line, why),
+    }
+}
+
+fn push_lex_error(line: &mut Line, why: &LexError)
+    requires { array_string_len line.old ≤ 20 }
+    ensures text { line.new.bytes ≡ line.old.bytes ++ lexer_text why.now }
+    ensures short { array_string_len line.new ≤ array_string_len line.old + 70 }
+{
+    match why {
+        LexError::Refused { place, why } => {
             line.push_str("lex ");
-            line.push_str(lex_str(why));
-            push_labelled(line, " at ", place);
+            line.push_str(lex_str(*why));
+            push_labelled(line, " at ", *place);
         }
-        FileRefusal::Syntax { place } => push_labelled(line, "syntax at ", place),
-        FileRefusal::Deep { place } => push_labelled(line, "deep at ", place),
-        FileRefusal::Unknown { place } => push_labelled(line, "name unknown at ", place),
-        FileRefusal::Twice { place } => push_labelled(line, "name twice at ", place),
-        FileRefusal::NotInScope { place } => push_labelled(line, "name scope at ", place),
-        FileRefusal::TooMany { what, count } => {
+        LexError::Memory => line.push_str("memory"),
+    }
+}
+
+fn push_parse_error(line: &mut Line, why: &ParseError)
+    requires { array_string_len line.old ≤ 20 }
+    ensures text { line.new.bytes ≡ line.old.bytes ++ parser_text why.now }
+    ensures short { array_string_len line.new ≤ array_string_len line.old + 70 }
+{
+    match why {
+        ParseError::Syntax { place } => push_labelled(line, "syntax at ", *place),
+        ParseError::Deep { place } => push_labelled(line, "deep at ", *place),
+        ParseError::Memory => line.push_str("memory"),
+    }
+}
+
+fn push_name_error(line: &mut Line, why: &NameError)
+    requires { array_string_len line.old ≤ 20 }
+    ensures text { line.new.bytes ≡ line.old.bytes ++ names_text why.now }
+    ensures short { array_string_len line.new ≤ array_string_len line.old + 70 }
+{
+    match why {
+        NameError::Unknown { place } => push_labelled(line, "name unknown at ", *place),
+        NameError::Twice { place } => push_labelled(line, "name twice at ", *place),
+        NameError::NotInScope { place } => push_labelled(line, "name scope at ", *place),
+        NameError::TooMany { what, count } => {
             line.push_str("too many ");
-            line.push_str(what_str(what));
-            push_labelled(line, " ", count);
+            line.push_str(what_str(*what));
+            push_labelled(line, " ", *count);
         }
+        NameError::Memory => line.push_str("memory"),
     }
 }
 

@@ -12,7 +12,9 @@ use std::marker::Model;
 /// What is shown, and the status that comes with it.
 #[derive(Drop)]
 pub struct Report {
+    /// The bytes that are written to standard output.
     pub text: Vec<u8>,
+    /// The exit status.
     pub status: Status,
 }
 

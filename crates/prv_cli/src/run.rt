@@ -10,13 +10,11 @@ use crate::refusal::{Refusal, Who};
 use crate::report::Report;
 use crate::status::Status;
 use prv_io::Files;
+use prv_line::TURNS;
 use prv_model::{Input, Program};
 use prv_run::run;
 use prv_text::outcome_text;
 use std::alloc::Global;
-
-/// The bound on the turns of the run.
-const TURNS: u32 = 32;
 
 /// What the program of a file does on an input.
 pub fn run_file<F: Files>(
@@ -40,7 +38,7 @@ fn show_run(alloc: Global, program: &Program, input: &Input) -> Result<Report, R
     ensures shown { (told : Told) → show_run_is program.now input.now told nothing result }
     ensures no_read { IsErrOf result Refusal.Read → ⊥ }
 {
-    let outcome = run(alloc, program, input, TURNS)?;
+    let outcome = run(alloc, program, input, TURNS.default)?;
     let text = outcome_text(alloc, &outcome)?;
     Ok(Report {
         text,

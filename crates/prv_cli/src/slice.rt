@@ -12,13 +12,11 @@ use crate::report::Report;
 use crate::status::Status;
 use prv_general::{GeneralError, Slice, generalise};
 use prv_io::Files;
+use prv_line::TURNS;
 use prv_model::{Input, Program};
 use prv_pool::Pool;
 use prv_text::slice_text;
 use std::alloc::Global;
-
-/// The bound on the turns of the run.
-const TURNS: u32 = 32;
 
 /// The bound on the nodes of the table of terms.
 const NODES: u32 = 20_000;
@@ -46,7 +44,7 @@ fn show_slice(alloc: Global, program: &Program, input: &Input) -> Result<Report,
     ensures no_read { IsErrOf result Refusal.Read → ⊥ }
 {
     let mut pool = Pool::new(alloc, NODES);
-    let made = generalise(alloc, program, input, TURNS, &mut pool);
+    let made = generalise(alloc, program, input, TURNS.default, &mut pool);
     let nodes = pool.len();
     prove!(nodes <= NODES);
     match made {

@@ -1,11 +1,10 @@
 //! The statuses under which something was shown.
-ghost use Rattle.std.specs.Prelude.{◌≡◌};
-ghost use Rattle.std.specs.List.{list_any};
-ghost use Rattle.prv_board.specs.Replays.{is_different as kind_is_different};
-ghost use Rattle.prv_cli.specs.Statuses.{status_number, is_unsettled as kind_is_unsettled, entries_status as status_is, board_status as board_status_is};
+ghost use Rattle.std.specs.Prelude.{◌≡◌, ◌<◌, ◌^◌, length};
+ghost use Rattle.prv_cli.specs.Statuses.{status_number, counts_status, entries_status as status_is, board_status as board_status_is};
 
-use prv_board::Board;
-use prv_model::{Entry, Kind};
+use prv_board::{Board, Counts};
+use prv_model::Entry;
+use prv_text::count_entries;
 
 /// What the program's end says of what was shown.
 #[derive(Clone, Copy, Debug, PartialEq, Eq)]
@@ -31,61 +30,30 @@ impl Status {
     }
 }
 
-/// The status of a list of entries.
+/// The status of a list of entries, of fewer than 2^32.
 pub fn entries_status(entries: &[Entry]) -> Status
+    requires { length entries.now < 2 ^ 32 }
     ensures { result ≡ status_is entries.now }
 {
-    if has_different(entries) {
-        Status::Different
-    } else if has_unsettled(entries) {
-        Status::Unsettled
-    } else {
-        Status::Done
-    }
+    status_of(&count_entries(entries))
 }
 
 /// The status of the live entries of a board.
 pub fn board_status(board: &Board) -> Status
     ensures { result ≡ board_status_is board.now.replay }
 {
-    let counts = board.counts();
+    status_of(&board.counts())
+}
+
+/// The status of entries of which there are so many of each kind.
+fn status_of(counts: &Counts) -> Status
+    ensures { result ≡ counts_status counts.now }
+{
     if counts.different > 0 {
         Status::Different
-    } else if counts.beyond > 0 {
-        Status::Unsettled
-    } else if counts.unexplored > 0 {
-        Status::Unsettled
-    } else if counts.undecided > 0 {
+    } else if counts.beyond > 0 || counts.unexplored > 0 || counts.undecided > 0 {
         Status::Unsettled
     } else {
         Status::Done
-    }
-}
-
-fn has_different(entries: &[Entry]) -> bool
-    ensures { result ≡ list_any (λ e. kind_is_different e.kind) entries.now }
-{
-    entries.iter().any(|entry| is_different(&entry.kind))
-}
-
-fn has_unsettled(entries: &[Entry]) -> bool
-    ensures { result ≡ list_any (λ e. kind_is_unsettled e.kind) entries.now }
-{
-    entries.iter().any(|entry| is_unsettled(&entry.kind))
-}
-
-fn is_different(kind: &Kind) -> bool
-    ensures { result ≡ kind_is_different kind.now }
-{
-    matches!(kind, Kind::Different { sample: _ })
-}
-
-/// Whether something is left to be found in an entry of this kind.
-fn is_unsettled(kind: &Kind) -> bool
-    ensures { result ≡ kind_is_unsettled kind.now }
-{
-    match kind {
-        Kind::Same | Kind::Different { sample: _ } | Kind::Empty => false,
-        Kind::Beyond | Kind::Unexplored | Kind::Undecided { reason: _ } => true,
     }
 }

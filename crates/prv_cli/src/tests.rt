@@ -1,3 +1,4 @@
+//! Reads and writes that fail, through `plain` over files and sinks in memory.
 use crate::top::plain;
 use prv_explore::Quiet;
 use prv_io::{MemFile, MemFiles, MemSink};

@@ -49,7 +49,7 @@ pub fn refuse<E: Sink>(err: &mut E, refusal: Refusal) -> u8
     ensures number { result ≡ refusal_number refusal }
     ensures told { IsTold refusal (record { taken = E.taken err.old; faults = E.faults err.old }) (record { taken = E.taken err.new; faults = E.faults err.new }) }
 {
-    let line = line_of(refusal);
+    let line = line_of(&refusal);
     let _ = write_all(err, line.as_str().as_bytes());
     refusal.number()
 }

@@ -1,3 +1,4 @@
+//! Clauses: lists of literals, of which most are short and lie in the clause itself.
 ghost use Rattle.std.specs.Prelude.{◌≡◌, IfOk};
 ghost use Rattle.prv_cnf.specs.Models.{is_clause_true, values_of};
 
@@ -10,6 +11,7 @@ use std::marker::Model;
 /// model.
 #[derive(Debug, Drop)]
 pub struct Clause {
+    /// The literals, in order; up to four need no allocation.
     lits: SmallVec<Lit, 4>,
 }
 
@@ -29,6 +31,15 @@ impl Clause {
     {
         let lits = SmallVec::from_slice(alloc, lits)?;
         Ok(Clause { lits })
+    }
+
+    /// The clause of these literals in this order, whatever they are. It takes no memory: the vector's
+    /// is kept, or given back where the literals need none.
+    pub fn from_vec(lits: Vec<Lit>) -> Clause
+        ensures { result ≡ lits.items }
+    {
+        let lits = SmallVec::from_vec(lits);
+        Clause { lits }
     }
 
     /// The literals, in order.

@@ -1,3 +1,4 @@
+//! Formulas in conjunctive normal form, which only grow: by variables, and by clauses at the end.
 ghost use Rattle.std.specs.Prelude.{◌≡◌, ◌+◌, ◌<◌, ◌≤◌, ◌↔◌, ◌++◌, ◌∷◌, [], length, IsTrue, OnOk, OnErr};
 ghost use Rattle.std.specs.List.{AllByRecursion, list_all};
 ghost use Rattle.prv_cnf.specs.Formulas.{IsLiteral};
@@ -15,7 +16,9 @@ pub const MAX_VARS: u32 = 2_000_000;
 /// clause true.
 #[derive(Debug, Drop)]
 pub struct Cnf {
+    /// How many variables there are.
     vars: u32,
+    /// The clauses, in the order in which they were added.
     clauses: Vec<Clause>,
 }
 

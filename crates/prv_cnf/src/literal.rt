@@ -1,3 +1,4 @@
+//! Literals, as in the DIMACS format: a number for a variable, and its negative for the negation.
 ghost use Rattle.std.specs.Prelude.{◌≡◌, ◌<◌, ◌≤◌, ◌^◌};
 ghost use Rattle.prv_cnf.specs.Literals.{negate, variable, is_literal_true};
 ghost use Rattle.prv_cnf.specs.Models.{values_of};

@@ -1,3 +1,4 @@
+//! Models of a formula, and the literals of its clauses.
 use super::*;
 use std::alloc::AllocError;
 

@@ -1,3 +1,4 @@
 pub mod DependenceLaws
 pub mod MaskLaws
+pub mod OverwriteLaws
 pub mod RowLaws

@@ -10,7 +10,7 @@ use Rattle.prv_model.specs.declared.stmt.Stmt.TheOpen.{Stmt-F}
 use Rattle.prv_model.specs.declared.stmt.Stmt.TheFolds.{fold-roll-Stmt}
 use Rattle.prv_model.specs.declared.stmt.Stmt.TheVariants.{Skip, Set, If, Block, rolls-Set, rolls-If, rolls-Block}
 use Rattle.prv_dep.specs.declared.writes.Row.{Row}
-use Rattle.prv_dep.specs.Dependences.{writes, node_writes, may_leave, node_may_leave}
+use Rattle.prv_dep.specs.Dependences.{writes, node_writes, overwrites, node_overwrites, may_leave, node_may_leave}
 use Rattle.prv_dep.specs.Tables.{bit, mask, reads, node_reads, row, row_at, dependences, statement}
 use Rattle.prv_dep.proofs.MaskLaws.{mask-append, mask-one}
 
@@ -55,13 +55,19 @@ more-rows front next x start old new is so far =
     ∙ ap (λ (rows : List Row). start ++ rows) (sym (map-append (λ s. row s) (statements_all front) (statements x)) ∙ ap (λ (all : List Stmt). map (λ s. row s) all) (sym (all-more front x) ∙ ap (λ (all : List Stmt). statements_all all) (sym is)))
 
 -- the row of a statement is its parts
-pub row-is : (s : Stmt) (w r : ℕ) (b : Bool) → w ≡ mask (writes s) → r ≡ mask (reads s) → b ≡ may_leave s → record { writes = w; reads = r; leaves = b } ≡ row s
-row-is s w r b written read left = λ i. record { writes = written i; reads = read i; leaves = left i }
+pub row-is : (s : Stmt) (w o r : ℕ) (b : Bool) → w ≡ mask (writes s) → o ≡ mask (overwrites s) → r ≡ mask (reads s) → b ≡ may_leave s →
+    record { writes = w; overwrites = o; reads = r; leaves = b } ≡ row s
+row-is s w o r b written over read left = λ i. record { writes = written i; overwrites = over i; reads = read i; leaves = left i }
 
 pub written-Set : (s : Stmt) (var : ℕ) (e : Expr) (w : ℕ) → s ≡ Set var e → w ≡ bit var → w ≡ mask (writes s)
 written-Set s var e w is so =
     so ∙ sym (mask-one var) ∙ ap (λ (vs : List ℕ). mask vs) (sym (ap (λ (t : Stmt). writes t) (sym (rolls-Set var e)) ∙ fold-roll-Stmt (List ℕ) node_writes (Stmt-F.Set var e)))
     ∙ ap (λ (t : Stmt). mask (writes t)) (sym is)
+
+pub overwritten-Set : (s : Stmt) (var : ℕ) (e : Expr) (o : ℕ) → s ≡ Set var e → o ≡ bit var → o ≡ mask (overwrites s)
+overwritten-Set s var e o is so =
+    so ∙ sym (mask-one var) ∙ ap (λ (vs : List ℕ). mask vs) (sym (ap (λ (t : Stmt). overwrites t) (sym (rolls-Set var e)) ∙ fold-roll-Stmt (List ℕ) node_overwrites (Stmt-F.Set var e)))
+    ∙ ap (λ (t : Stmt). mask (overwrites t)) (sym is)
 
 pub written-If : (s : Stmt) (test : Expr) (chosen last : Stmt) (other : Option Stmt) (w v : ℕ) → s ≡ If test chosen other → other ≡ Some last → w ≡ mask (writes chosen) → v ≡ mask (writes last) →
     bit_or w v ≡ mask (writes s)
@@ -72,12 +78,13 @@ written-If s test chosen last other w v is some first second =
 
 -- the row of a block
 pub block-row : (all : List Stmt) (w : ℕ) (b : Bool) → w ≡ mask (flat_map (λ each. each) (map (λ s. writes s) all)) → b ≡ list_any (λ b. b) (map (λ s. may_leave s) all) →
-    record { writes = w; reads = 0; leaves = b } ≡ row (Block all)
+    record { writes = w; overwrites = 0; reads = 0; leaves = b } ≡ row (Block all)
 block-row all w b so far =
     let written : w ≡ mask (writes (Block all)) = so ∙ ap (λ (vs : List ℕ). mask vs) (sym (ap (λ (s : Stmt). writes s) (sym (rolls-Block all)) ∙ fold-roll-Stmt (List ℕ) node_writes (Stmt-F.Block all))) in
     let left : b ≡ may_leave (Block all) = far ∙ sym (ap (λ (s : Stmt). may_leave s) (sym (rolls-Block all)) ∙ fold-roll-Stmt Bool node_may_leave (Stmt-F.Block all)) in
+    let over : 0 ≡ mask (overwrites (Block all)) = sym (ap (λ (s : Stmt). mask (overwrites s)) (sym (rolls-Block all)) ∙ ap (λ (vs : List ℕ). mask vs) (fold-roll-Stmt (List ℕ) node_overwrites (Stmt-F.Block all))) in
     let read : 0 ≡ mask (reads (Block all)) = sym (ap (λ (s : Stmt). mask (reads s)) (sym (rolls-Block all)) ∙ ap (λ (vs : List ℕ). mask vs) (fold-roll-Stmt (List ℕ) node_reads (Stmt-F.Block all))) in
-    λ i. record { writes = written i; reads = read i; leaves = left i }
+    λ i. record { writes = written i; overwrites = over i; reads = read i; leaves = left i }
 
 -- the row at a number is that of the statement with this number
 at-rows : (all : List Stmt) (k : ℕ) → row_at (map (λ s. row s) all) k ≡ row (unwrap_or (slice_get all k) Skip)

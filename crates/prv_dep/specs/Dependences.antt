@@ -91,6 +91,16 @@ node_writes _ = []
 abbrev pub writes : Stmt → List ℕ
 writes = fold-Stmt (List ℕ) node_writes
 
+-- one node: only what a statement itself does counts
+abbrev pub node_overwrites : Stmt-F (List ℕ) → List ℕ
+node_overwrites (Stmt-F.Set var e) = var ∷ []
+node_overwrites _ = []
+
+-- the variables that a statement itself overwrites where its evaluation has a value: what they had before is of no account behind it
+-- It may write these and others: what a statement inside it sets it may write, and doesn't overwrite.
+abbrev pub overwrites : Stmt → List ℕ
+overwrites = fold-Stmt (List ℕ) node_overwrites
+
 -- whether an evaluation has a value
 abbrev pub evaluates : Option ℤ → Bool
 evaluates None = false

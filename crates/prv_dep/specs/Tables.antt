@@ -7,7 +7,7 @@ use Rattle.prv_model.specs.declared.stmt.Stmt.{Stmt}
 use Rattle.prv_model.specs.declared.stmt.Stmt.TheVariants.{Skip}
 use Rattle.prv_model.specs.declared.stmt.Stmt.TheOpen.{Stmt-F}
 use Rattle.prv_model.specs.declared.stmt.Stmt.TheFolds.{fold-Stmt}
-use Rattle.prv_dep.specs.Dependences.{vars, may_leave, writes}
+use Rattle.prv_dep.specs.Dependences.{vars, may_leave, writes, overwrites}
 use Rattle.prv_dep.specs.declared.writes.Row.{Row}
 
 -- the number that has the bit of one variable; a variable past 64 has none
@@ -38,7 +38,7 @@ reads = fold-Stmt (List ℕ) node_reads
 
 -- what is kept of a statement
 abbrev pub row : Stmt → Row
-row s = record { writes = mask (writes s); reads = mask (reads s); leaves = may_leave s }
+row s = record { writes = mask (writes s); overwrites = mask (overwrites s); reads = mask (reads s); leaves = may_leave s }
 
 -- what is kept of a program: a row for each statement, by its number
 abbrev pub dependences : Program → List Row

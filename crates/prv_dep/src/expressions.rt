@@ -1,3 +1,7 @@
+//! What an expression reads, and whether its evaluation may fault.
+//!
+//! A set of variables is a word with a bit for each, since a program has at most 64 of them. Whether a
+//! division may fault is judged by its divisor's form alone: only a nonzero numeral is known not to be 0.
 ghost use Rattle.std.specs.Prelude.{◌≡◌};
 ghost use Rattle.prv_dep.specs.Dependences.{vars as vars_of, may_fault as may_fault_of, divisions, divides as divides_of};
 ghost use Rattle.prv_dep.specs.Tables.{bit as bit_of, mask};

@@ -1,7 +1,12 @@
+//! The table of a program's dependences: a row for each statement, by its number in text order.
+//!
+//! The rows are made by one walk over the tree, children before the statement's own row, which collects
+//! theirs. To write a variable and to overwrite it are told apart: an `if` may write what is set inside it
+//! and overwrites nothing, and only what is overwritten ends the need for the value that was there before.
 ghost use Rattle.std.specs.Prelude.{◌≡◌, ◌<◌, ◌++◌, length, map, IfOk, OnOk};
 ghost use Rattle.prv_model.specs.Numbers.{inside, statements, statements_all};
 ghost use Rattle.prv_model.specs.declared.program.Program.{Program};
-ghost use Rattle.prv_dep.specs.Dependences.{has, writes as writes_of, may_leave as may_leave_of};
+ghost use Rattle.prv_dep.specs.Dependences.{has, writes as writes_of, overwrites as overwrites_of, may_leave as may_leave_of};
 ghost use Rattle.prv_dep.specs.Tables.{mask, reads as reads_of, row as row_of, row_at, dependences, statement, has_bit as has_bit_of};
 
 use crate::expressions::{bit, may_fault, vars};
@@ -13,17 +18,20 @@ use std::marker::Model;
 /// What is kept of a statement, with a bit for each variable.
 #[derive(Clone, Copy)]
 pub struct Row {
-    /// The variables that it may write.
+    /// The variables that it, or a statement inside it, may write.
     pub writes: u64,
+    /// The variables that it overwrites itself.
+    pub overwrites: u64,
     /// The variables that its own expression reads.
     pub reads: u64,
-    /// Whether it may leave.
+    /// Whether it, or a statement inside it, may leave.
     pub leaves: bool,
 }
 
 /// What the statements of a program depend on, by their numbers in text order.
 #[derive(Drop)]
 pub struct Writes {
+    /// The row of each statement, by its number.
     rows: Items<Row>,
 }
 
@@ -67,6 +75,18 @@ impl Writes {
         ensures { (p : Program) → self.now ≡ dependences p → result ≡ has (writes_of (statement p stmt)) var }
     {
         has_bit(self.row(stmt).writes, var)
+    }
+
+    /// Whether a statement itself, not one inside it, overwrites this variable: where it goes on, what the
+    /// variable had before is of no account.
+    ///
+    /// What a statement overwrites it may write; the other way round is not so.
+    pub fn overwrites(&self, stmt: u32, var: u8) -> bool
+        requires number { stmt < length self.now }
+        requires variable { var < 64 }
+        ensures { (p : Program) → self.now ≡ dependences p → result ≡ has (overwrites_of (statement p stmt)) var }
+    {
+        has_bit(self.row(stmt).overwrites, var)
     }
 
     /// Whether a statement may put a word out, end the run, or not end: whether it or one inside it is a
@@ -118,11 +138,7 @@ fn push_all(all: &[Stmt], rows: &mut Items<Row>) -> Result<Row, AllocError>
         writes |= row.writes;
         leaves |= row.leaves;
     }
-    Ok(Row {
-        writes,
-        reads: 0,
-        leaves,
-    })
+    Ok(plain(writes, 0, leaves))
 }
 
 /// Adds the rows of a statement and of those inside it, and answers its own.
@@ -146,7 +162,12 @@ fn push_inside(stmt: &Stmt, rows: &mut Items<Row>) -> Result<Row, AllocError>
 {
     match stmt {
         Stmt::Skip => Ok(plain(0, 0, false)),
-        Stmt::Set { var, value } => Ok(plain(bit(*var), vars(value), may_fault(value))),
+        Stmt::Set { var, value } => Ok(Row {
+            writes: bit(*var),
+            overwrites: bit(*var),
+            reads: vars(value),
+            leaves: may_fault(value),
+        }),
         Stmt::If { test, yes, no } => {
             let chosen = push(yes.get(), rows)?;
             match no {
@@ -179,11 +200,13 @@ fn push_inside(stmt: &Stmt, rows: &mut Items<Row>) -> Result<Row, AllocError>
     }
 }
 
+/// What is kept of a statement that overwrites nothing itself.
 fn plain(writes: u64, reads: u64, leaves: bool) -> Row
-    ensures { result ≡ record { writes = writes; reads = reads; leaves = leaves } }
+    ensures { result ≡ record { writes = writes; overwrites = 0; reads = reads; leaves = leaves } }
 {
     Row {
         writes,
+        overwrites: 0,
         reads,
         leaves,
     }

@@ -1,4 +1,9 @@
--- Which images of a disk a crash may leave, as time goes on.
+-- Which images of a disk a crash may leave, as time goes on. What is assumed of a device that keeps this model:
+-- A write that is cut off harms no byte outside its range, also none that shares a sector with it.
+-- A sync that fails takes nothing back: a read still gives what was written, a crash leaves only what it might have left
+-- before, and a later sync that is done makes lasting what a read gives. A system that drops the pages of a failed sync,
+-- or calls them written, doesn't keep this: there a later sync answers well, and a crash may still leave older bytes.
+-- Nobody else writes to the bytes, and what is lasting stays as it is.
 use Rattle.std.specs.Prelude.{◌≡◌, ◌⊎◌, ℕ, ◌+◌, ◌≤◌, List}
 
 -- no image but those from before

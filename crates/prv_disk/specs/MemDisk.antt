@@ -1,7 +1,7 @@
 -- A disk in memory: the bytes that it was made with, and its calls, the last one first.
 use Rattle.std.specs.Prelude.{◌≡◌, ◌⊎◌, ℕ, zero, suc, ◌-◌, ◌^◌, ◌<◌, ◌≤◌, ◌==◌, true, false, List, [], ◌∷◌, length, take, drop, replicate, if◌then◌else◌, IsTrue}
 use Rattle.prv_disk.specs.Bytes.{overwritten, Torn}
-use Rattle.prv_disk.specs.Faults.{Plan, is_to_fail, after_call}
+use Rattle.prv_io.specs.FaultPlan.{Plan, is_to_fail, after_call}
 use Rattle.prv_disk.specs.declared.quiet_calls.QuietCalls.{QuietCalls}
 
 -- what a call did: it wrote these bytes at `at`, it changed nothing, or it made everything lasting

@@ -1,17 +1,15 @@
-//! A disk as those see it who keep something on it.
+//! A disk as those see it who keep something on it: bytes by place, a sync, and which images a crash may leave. What is
+//! assumed of a device, of torn sectors and of failed syncs stands at the head of the definitions of crashes.
 ghost use Rattle.std.specs.Prelude.{◌≡◌, ℕ, ◌+◌, ◌≤◌, List, length, take, drop, IfOk, OnOk, OnErr, IsErrOf};
 ghost use Rattle.prv_disk.specs.declared.disk.DiskError.TheVariants.{Failed, Memory};
 ghost use Rattle.prv_disk.specs.Bytes.{overwritten, Torn};
 ghost use Rattle.prv_disk.specs.Crashes.{NoMore, Follows, Only, Passes};
-ghost use Rattle.prv_disk.specs.Faults.{Rose, UnlessFailed};
+ghost use Rattle.prv_disk.specs.Faults.{UnlessFailed};
+ghost use Rattle.prv_io.specs.Faults.{Rose};
 
+use prv_io::Failed;
 use std::alloc::{AllocError, AllocFailed};
 use thiserror::Error;
-
-/// A fault, which the disk that answers it counted.
-#[derive(Clone, Copy, Debug, PartialEq, Eq, Error)]
-#[error("the call failed")]
-pub struct Failed;
 
 /// Why a call of a disk was not done.
 #[derive(Clone, Copy, Debug, PartialEq, Eq, Error)]

@@ -1,23 +1,27 @@
-//! A real file as a disk. No clause says what it holds.
+//! A real file as a disk, with a count of its faults. No clause says what a file holds, nor that a sync reaches the
+//! device: that what is written is written before it is synced, and that each sync is made, is tested over a file that
+//! writes down its calls, and the rest over real files.
 ghost use Rattle.std.specs.Prelude.{◌≡◌, ◌≤◌, ⊤, [], OnOk, OnErr};
-ghost use Rattle.prv_disk.specs.Faults.{Rose};
+ghost use Rattle.prv_io.specs.Faults.{Rose};
 
-use crate::{Disk, DiskError, Failed};
-use std::fs::{File, OpenOptions};
+use crate::held_file::{HeldFile, open};
+use crate::{Disk, DiskError, OpenMode};
+use prv_io::Failed;
+use std::fs::{File, OpenFile};
+use std::io;
 use std::marker::Model;
 use std::os::unix::fs::FileExt;
-use std::{fs, io};
 
-/// A file of the operating system. It tells nothing of what it holds.
+/// A file of the operating system, or of a test in its place. It tells nothing of what it holds.
 #[derive(Drop)]
-pub struct FileDisk {
-    file: Option<File>,
-    // Its folder, up to the first sync that was done.
-    folder: Option<File>,
+pub struct FileDisk<F: OpenFile + FileExt + Drop = File> {
+    // The file as far as it could be had.
+    held: HeldFile<F>,
+    // How many calls have failed. It stands still at 2^64 - 1.
     faults: u64,
 }
 
-impl Model for FileDisk {
+impl<F: OpenFile + FileExt + Drop> Model for FileDisk<F> {
     ghost use Rattle.std.specs.Prelude.{ℕ};
 
     ghost Value = { ℕ };
@@ -25,32 +29,30 @@ impl Model for FileDisk {
     ghost view = { λ disk. disk.faults };
 }
 
-// The file, which is made empty where it is absent, and the folder that has its name.
-fn open(rt: &HostRuntime, path: &str) -> io::Result<(File, File)> {
-    let file = match File::create_new(rt, path) {
-        Err(error) if error.kind() == io::ErrorKind::AlreadyExists => {
-            OpenOptions::new().read(true).write(true).open(rt, path)?
-        }
-        answer => answer?,
-    };
-    let mut folder = fs::canonicalize(rt, path)?;
-    folder.pop();
-    let folder = File::open(rt, folder.as_str())?;
-    Ok((file, folder))
-}
-
-impl FileDisk {
-    /// The file of this path. An absent one is made empty. Where it can't be opened, each call fails.
-    pub fn open(rt: &HostRuntime, path: &str) -> FileDisk
+impl FileDisk<File> {
+    /// The file of this path, locked for as long as the disk lives. Each call of the disk fails where the file is locked
+    /// by another, or can't be opened for what the mode asks. The file has no descriptor of a standard stream, not even
+    /// where one of these is closed.
+    pub fn open(rt: &HostRuntime, path: &str, mode: OpenMode) -> FileDisk<File>
         ensures { result ≡ 0 }
     {
-        let (file, folder) = match open(rt, path) {
-            Ok((file, folder)) => (Some(file), Some(folder)),
-            Err(_) => (None, None),
-        };
         FileDisk {
-            file,
-            folder,
+            held: open(rt, path, mode),
+            faults: 0,
+        }
+    }
+}
+
+impl<F: OpenFile + FileExt + Drop> FileDisk<F> {
+    /// A file that is open for reading and writing, and the folder that has its name.
+    pub fn of_open_file(file: F, folder: F) -> FileDisk<F>
+        ensures { result ≡ 0 }
+    {
+        FileDisk {
+            held: HeldFile::Writable {
+                file,
+                folder: Some(folder),
+            },
             faults: 0,
         }
     }
@@ -64,31 +66,18 @@ impl FileDisk {
 }
 
 // Hands an answer on, and counts a fault where it is none.
-fn count<T>(faults: &mut u64, answer: Option<io::Result<T>>) -> Result<T, Failed>
+fn count<T>(faults: &mut u64, answer: io::Result<T>) -> Result<T, Failed>
     ensures ok { OnOk result (faults.new ≡ faults.old) }
     ensures err { OnErr result (Rose faults.old faults.new) }
     ensures never_falls { faults.old ≤ faults.new }
 {
-    match answer {
-        Some(Ok(answer)) => Ok(answer),
-        _ => {
-            *faults = faults.saturating_add(1);
-            Err(Failed)
-        }
+    if answer.is_err() {
+        *faults = faults.saturating_add(1);
     }
+    answer.map_err(|_| Failed)
 }
 
-// The first sync makes the file's name lasting too.
-fn sync(file: &File, folder: &mut Option<File>) -> io::Result<()> {
-    file.sync_all()?;
-    if let Some(folder) = folder {
-        folder.sync_all()?;
-    }
-    *folder = None;
-    Ok(())
-}
-
-impl Disk for FileDisk {
+impl<F: OpenFile + FileExt + Drop> Disk for FileDisk<F> {
     ghost faults = { λ disk. disk };
 
     ghost Tells = { ⊥ };
@@ -108,23 +97,22 @@ impl Disk for FileDisk {
     ghost only_now = { λ _ _ _. tt };
 
     fn len(&mut self) -> Result<u64, DiskError> {
-        let answer = self.file.as_ref().map(|file| Ok(file.metadata()?.len()));
+        let answer = self.held.len();
         Ok(count(&mut self.faults, answer)?)
     }
 
     fn read_at(&mut self, at: u64, into: &mut [u8]) -> Result<(), DiskError> {
-        let answer = self.file.as_ref().map(|file| file.read_exact_at(into, at));
+        let answer = self.held.read_at(at, into);
         Ok(count(&mut self.faults, answer)?)
     }
 
     fn write_at(&mut self, at: u64, piece: &[u8]) -> Result<(), DiskError> {
-        let answer = self.file.as_ref().map(|file| file.write_all_at(piece, at));
+        let answer = self.held.write_at(at, piece);
         Ok(count(&mut self.faults, answer)?)
     }
 
     fn sync(&mut self) -> Result<(), Failed> {
-        let folder = &mut self.folder;
-        let answer = self.file.as_ref().map(|file| sync(file, folder));
+        let answer = self.held.sync();
         count(&mut self.faults, answer)
     }
 }

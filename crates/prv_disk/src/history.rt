@@ -1,19 +1,22 @@
-//! What a disk in memory was made with, and its calls.
+//! What a disk in memory was made with, and its calls. Each write is kept with its bytes, so that any image that a crash
+//! may leave can be made later; the calls between two writes are only counted.
 ghost use Rattle.std.specs.Prelude.{◌≡◌, ◌+◌, ◌-◌, ◌^◌, ◌<◌, ◌≤◌, [], ◌∷◌, ◌++◌, length, vec_len, vec_capacity, if◌then◌else◌, IfOk, OnOk, OnErr};
 ghost use Rattle.prv_disk.specs.MemDisk.{Wrote, Synced, content, crashed, quiet};
 
-use crate::Failed;
 use crate::past_write::{PastWrite, leave_all, overwrite};
 use crate::quiet_calls::QuietCalls;
+use prv_io::Failed;
 use std::alloc::AllocError;
 use std::marker::Model;
 
 /// The bytes that a disk was made with and the calls that were done since, each write with its bytes.
 #[derive(Debug, Drop)]
 pub struct History {
+    // What the disk was made with, all of it lasting.
     start: Vec<u8>,
     // What a read gives, once something was written.
     current: Vec<u8>,
+    // The writes that were done, the first of them first.
     writes: Vec<PastWrite>,
     // The calls since the last write.
     since: QuietCalls,

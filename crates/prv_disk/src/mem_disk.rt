@@ -1,20 +1,23 @@
-//! A disk in memory.
+//! A disk in memory, which keeps the model of a disk exactly: for runs in which a call is to fail, or a crash to come,
+//! at a given moment.
 ghost use Rattle.std.specs.Prelude.{◌≡◌, ◌+◌, ◌≤◌, [], length, take, drop, ⊤, IsTrue, IsErr, IfOk, OnOk, OnErr, IsErrOf};
 ghost use Rattle.prv_disk.specs.Bytes.{Torn};
 ghost use Rattle.prv_disk.specs.Crashes.{Follows, NoMore};
-ghost use Rattle.prv_disk.specs.Faults.{fresh, is_to_fail};
+ghost use Rattle.prv_io.specs.FaultPlan.{fresh, is_to_fail};
 ghost use Rattle.prv_disk.specs.MemDisk.{content, MayLeave, LeftSince, crashed, after_quiet, after_sync, after_write, after_fault, MayFail};
 
-use crate::fault_plan::FaultPlan;
 use crate::history::History;
-use crate::{Disk, DiskError, Failed};
+use crate::{Disk, DiskError};
+use prv_io::{Failed, FaultPlan};
 use std::alloc::AllocError;
 use std::marker::Model;
 
 /// A disk in memory, which tells all that it holds, and keeps its calls so that a crash can be had.
 #[derive(Debug, Drop)]
 pub struct MemDisk {
+    // What it was made with, and the calls that were done.
     history: History,
+    // All calls, and which of them are to fail.
     plan: FaultPlan,
 }
 

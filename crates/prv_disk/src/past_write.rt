@@ -1,4 +1,5 @@
-//! Writes that were done, and what they make of the bytes before them.
+//! Writes that were done, and what they make of the bytes before them: all of their bytes where they are lasting, and any
+//! bytes in their range where a crash came before a sync.
 ghost use Rattle.std.specs.Prelude.{◌≡◌, OnOk, OnErr, replicate, if◌then◌else◌, ◌==◌};
 ghost use Rattle.prv_disk.specs.Bytes.{overwritten};
 ghost use Rattle.prv_disk.specs.MemDisk.{picked, after_picks};
@@ -7,11 +8,14 @@ use crate::quiet_calls::QuietCalls;
 use std::alloc::AllocError;
 use std::marker::Model;
 
-/// A write, and the calls between it and the write before it.
+/// A write that was done.
 #[derive(Debug, Drop)]
 pub struct PastWrite {
+    /// The calls between it and the write before it.
     pub before: QuietCalls,
+    /// Where its first byte stands, from 0.
     pub at: u64,
+    /// The bytes that it wrote.
     pub bytes: Vec<u8>,
 }
 

@@ -1,19 +1,15 @@
 -- Turns one after the other, and what stays as it was below the entry of a turn.
 use Rattle.std.proofs.Common.{◌≡◌, ℕ, zero, suc, ◌<◌, true, false, List, [], ◌∷◌, ◌++◌, map, Option, Some, None, refl, sym, ap, ◌∙◌, subst, arith, append_assoc}
 use Rattle.std.proofs.lemmas.List.{append-nil}
-use Rattle.std.specs.List.{list_any}
-use Rattle.std.proofs.lemmas.Bool.Decides.{nat_tests}
-use Rattle.prv_model.specs.declared.entry.Kind.{Kind}
-use Rattle.prv_model.specs.declared.entry.Kind.TheVariants as k
-use Rattle.prv_model.specs.declared.entry.Reason.TheVariants as r
 use Rattle.prv_part.specs.declared.part.Part.{Part}
 use Rattle.prv_part.specs.Settlements.{Finding}
-use Rattle.prv_board.specs.Slots.{Slot, live_slot, retire, part_at, is_left_within, may_replace, may_replace_part, is_open, is_claimable, is_claimable_kind, is_claimable_part}
+use Rattle.prv_board.specs.Slots.{Slot, live_slot, retire, part_at, may_replace_part, is_open, is_claimable, is_claimable_part}
 use Rattle.prv_board.specs.Replays.{Replay, with_one_more, slots}
 use Rattle.prv_board.proofs.ReplayLaws.{slots-push}
 use Rattle.prv_record.specs.declared.raw.Raw.{Raw}
-use Rattle.prv_explore.specs.Explorations.{IsTurn, AreTurns, IsLeftAt}
-use Rattle.prv_explore.proofs.Budgets.{AreLeftAt}
+use Rattle.prv_settle.specs.Budgets.{HasBudget}
+use Rattle.prv_settle.proofs.Budgeting.{may-replace}
+use Rattle.prv_explore.specs.Explorations.{IsTurn, AreTurns}
 
 -- a board with some settlements more
 abbrev pub with_more : Replay → List Finding → Replay
@@ -46,39 +42,10 @@ claimable-before b s budget k is below =
     ap (λ (ss : List Slot). is_claimable ss k budget) (slots-push b s)
     ∙ ap (λ (o : Option Part). is_claimable_part budget o) (part-before (slots b) (map live_slot s.parts) s.entry k found.0 found.1 below)
 
--- a kind that names a greater budget isn't left within a smaller one
-not-within : (lines spent : ℕ) (kind : Kind) → spent < lines → IsLeftAt lines kind → is_left_within spent kind ≡ false
-not-within lines spent k.Same less left = refl
-not-within lines spent (k.Different sample) less left = refl
-not-within lines spent k.Empty less left = refl
-not-within lines spent k.Beyond less left = refl
-not-within lines spent k.Unexplored less left = refl
-not-within lines spent (k.Undecided (r.Lines budget)) less left = grind (arith, nat_tests)
-not-within lines spent (k.Undecided (r.Numbers count)) less left = refl
-not-within lines spent (k.Undecided (r.Clauses count)) less left = refl
-not-within lines spent (k.Undecided r.Wide) less left = refl
-not-within lines spent (k.Undecided r.Literals) less left = refl
+-- an entry that can be worked on is open to a settlement that was made with the budget
+open-part : (lines : ℕ) (s : Finding) (o : Option Part) → HasBudget lines s → is_claimable_part lines o ≡ true → may_replace_part s.parts o ≡ true
+open-part lines s None left is = absurd (cc is)
+open-part lines s (Some p) left is = may-replace lines s p.kind left is
 
-none-within : (lines spent : ℕ) (parts : List Part) → spent < lines → AreLeftAt lines parts → list_any (λ p. is_left_within spent p.kind) parts ≡ false
-none-within lines spent [] less left = refl
-none-within lines spent (p ∷ parts) less left = rw (not-within lines spent p.kind less left.0) (none-within lines spent parts less left.1)
-
--- an entry that can be worked on is open to parts that were left with the budget
-may-replace : (lines : ℕ) (parts : List Part) (kind : Kind) → AreLeftAt lines parts → is_claimable_kind lines kind ≡ true → may_replace parts kind ≡ true
-may-replace lines parts k.Unexplored left is = refl
-may-replace lines parts (k.Undecided (r.Lines spent)) left is = rw (none-within lines spent parts (grind (arith, nat_tests)) left) refl
-may-replace lines parts k.Same left is = absurd (cc is)
-may-replace lines parts (k.Different sample) left is = absurd (cc is)
-may-replace lines parts k.Empty left is = absurd (cc is)
-may-replace lines parts k.Beyond left is = absurd (cc is)
-may-replace lines parts (k.Undecided (r.Numbers count)) left is = absurd (cc is)
-may-replace lines parts (k.Undecided (r.Clauses count)) left is = absurd (cc is)
-may-replace lines parts (k.Undecided r.Wide) left is = absurd (cc is)
-may-replace lines parts (k.Undecided r.Literals) left is = absurd (cc is)
-
-open-part : (lines : ℕ) (parts : List Part) (o : Option Part) → AreLeftAt lines parts → is_claimable_part lines o ≡ true → may_replace_part parts o ≡ true
-open-part lines parts None left is = absurd (cc is)
-open-part lines parts (Some p) left is = may-replace lines parts p.kind left is
-
-pub claimable-open : (slots : List Slot) (s : Finding) (lines : ℕ) → AreLeftAt lines s.parts → is_claimable slots s.entry lines ≡ true → is_open slots s ≡ true
-claimable-open slots s lines left is = open-part lines s.parts (part_at slots s.entry) left is
+pub claimable-open : (slots : List Slot) (s : Finding) (lines : ℕ) → HasBudget lines s → is_claimable slots s.entry lines ≡ true → is_open slots s ≡ true
+claimable-open slots s lines left is = open-part lines s (part_at slots s.entry) left is

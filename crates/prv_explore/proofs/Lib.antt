@@ -1,4 +1,3 @@
-pub mod Budgets
 pub mod Grown
 pub mod Turning
 pub mod UnderWay

@@ -9,14 +9,16 @@ use Rattle.prv_board.specs.Slots.{part_at, is_claimable, IsNextClaimable, NoneCl
 use Rattle.prv_board.specs.Replays.{Replay, with_one_more, slots, HasRegion, Applies, Refuses}
 use Rattle.prv_board.specs.declared.error.ApplyError.TheVariants.{Stranger, Full}
 use Rattle.prv_board.specs.declared.error.StrangerWhy.{StrangerWhy}
+use Rattle.prv_board.specs.declared.totals.Totals.{Totals}
 use Rattle.prv_board.specs.declared.error.StrangerWhy.TheVariants as stranger
 use Rattle.prv_record.specs.declared.raw.Raw.{Raw}
+use Rattle.prv_settle.specs.Budgets.{HasBudget}
 use Rattle.prv_settle.specs.Settlings.{IsSettled}
 use Rattle.prv_settle.specs.Supported.{finding_of, IsSupported}
+use Rattle.prv_settle.proofs.Budgeting.{has-budget, raw-entry}
 use Rattle.prv_explore.specs.Explorations.{IsTurn}
 use Rattle.prv_explore.specs.Turns.{NoneBelow, Turned, IsOfEntry}
 use Rattle.prv_explore.specs.declared.turn.Turn.TheVariants as turn
-use Rattle.prv_explore.proofs.Budgets.{AreLeftAt, parts-left, raw-entry}
 use Rattle.prv_explore.proofs.Grown.{claimable-open, claimable-before}
 
 below_or_not : (a b : ℕ) → (a < b) ⊎ (b ≤ a)
@@ -39,15 +41,11 @@ has-region b s n p is entry region =
     ap (λ (k : ℕ). option_map (λ p. p.region) (part_at (slots b) k)) entry ∙ ap (λ (o : Option Part). option_map (λ p. p.region) o) is ∙ ap (λ (x : List Term). Some x) (sym region)
 
 -- the parts of what was found of an entry were left with the budget
-pub of-entry-left : (b : Replay) (entry lines : ℕ) (s : Finding) (raw : Raw) → IsOfEntry b entry lines s raw → AreLeftAt lines s.parts
-of-entry-left b entry lines s raw of =
-    let P : Finding → Type 0 = λ f. AreLeftAt lines f.parts in
-    subst P (sym of.finding_is) (parts-left b.pair s.region entry lines raw of.settled)
+pub of-entry-left : (b : Replay) (entry lines : ℕ) (s : Finding) (raw : Raw) → IsOfEntry b entry lines s raw → HasBudget lines s
+of-entry-left b entry lines s raw of = has-budget b.pair s.region entry lines s raw of.settled of.finding_is
 
-pub turn-parts : (b : Replay) (lines : ℕ) (s : Finding) (raw : Raw) → IsTurn b lines s raw → AreLeftAt lines s.parts
-turn-parts b lines s raw turn =
-    let P : Finding → Type 0 = λ f. AreLeftAt lines f.parts in
-    subst P (sym turn.finding_is) (parts-left b.pair s.region s.entry lines raw turn.settled)
+pub turn-parts : (b : Replay) (lines : ℕ) (s : Finding) (raw : Raw) → IsTurn b lines s raw → HasBudget lines s
+turn-parts b lines s raw turn = has-budget b.pair s.region s.entry lines s raw turn.settled turn.finding_is
 
 -- what was found of the least entry is a turn
 pub is-turn : (b : Replay) (first lines n : ℕ) (s : Finding) (raw : Raw) → NoneBelow b first lines → IsNextClaimable (slots b) first lines n → IsOfEntry b n lines s raw → IsSupported s raw → IsTurn b lines s raw
@@ -100,10 +98,10 @@ turned-made b after first lines n s t raw below next of supported same applies g
     let is = is-turn b first lines n s raw below next of supported in
     (s, raw, is, subst P same applies, grown ∙ ap (λ (f : Finding). with_one_more b f) same, sym of.entry_is)
 
-pub turned-full : (b after : Replay) (first lines n entries numbers literals : ℕ) (s t : Finding) (raw : Raw) → NoneBelow b first lines → IsNextClaimable (slots b) first lines n → IsOfEntry b n lines s raw → IsSupported s raw → t ≡ s
-    → Refuses b t (Full entries numbers literals) → after ≡ b → Turned b after lines (turn.Full entries numbers literals)
-turned-full b after first lines n entries numbers literals s t raw below next of supported same refused left =
-    let P : Finding → Type 0 = λ f. Refuses b f (Full entries numbers literals) in
+pub turned-full : (b after : Replay) (first lines n : ℕ) (reached : Totals) (s t : Finding) (raw : Raw) → NoneBelow b first lines → IsNextClaimable (slots b) first lines n → IsOfEntry b n lines s raw → IsSupported s raw → t ≡ s
+    → Refuses b t (Full reached) → after ≡ b → Turned b after lines (turn.Full reached)
+turned-full b after first lines n reached s t raw below next of supported same refused left =
+    let P : Finding → Type 0 = λ f. Refuses b f (Full reached) in
     let is = is-turn b first lines n s raw below next of supported in
     (left, s, raw, is, subst P same refused)
 

@@ -19,7 +19,7 @@ NoneBelow b first lines = (k : ℕ) → k < first → is_claimable (slots b) k l
 abbrev pub Turned : Replay → Replay → ℕ → Turn → Type 0
 Turned b after lines (Made entry) = (s : Finding) × (raw : Raw) × IsTurn b lines s raw × Applies b s × (after ≡ with_one_more b s) × (entry ≡ s.entry)
 Turned b after lines Nothing = (after ≡ b) × NoneClaimable (slots b) 0 lines
-Turned b after lines (Full entries numbers literals) = (after ≡ b) × (s : Finding) × (raw : Raw) × IsTurn b lines s raw × Refuses b s (board.Full entries numbers literals)
+Turned b after lines (Full reached) = (after ≡ b) × (s : Finding) × (raw : Raw) × IsTurn b lines s raw × Refuses b s (board.Full reached)
 
 -- a settlement and its record are of an entry, with its region, and came of settling it with this budget
 pub record IsOfEntry (b : Replay) (entry lines : ℕ) (s : Finding) (raw : Raw) : Type 0 where

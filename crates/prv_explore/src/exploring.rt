@@ -1,16 +1,17 @@
-//! Exploring a pair.
+//! Exploring a pair: turns one after the other, until nothing is left, enough was made, or the board is full.
 ghost use Rattle.std.specs.Prelude.{◌≡◌, ◌≤◌, [], IfOk, OnErr};
 ghost use Rattle.std.specs.Arc.{arc_value};
 ghost use Rattle.std.specs.List.{AllByRecursion};
 ghost use Rattle.prv_board.specs.Legality.{IsLegalBoard};
 ghost use Rattle.prv_board.specs.Replays.{unsettled};
+ghost use Rattle.prv_settle.specs.Budgets.{HasBudget};
 ghost use Rattle.prv_settle.specs.declared.limits.TheConstants.{MAX_LINES};
-ghost use Rattle.prv_explore.specs.Explorations.{board_caps, IsExploration, HasBudget, HasSupport};
+ghost use Rattle.prv_explore.specs.Explorations.{IsExplorationWithin, IsExploration, HasSupport};
 
-use crate::plan::{BOARD_CAPS, Ended, Plan};
+use crate::plan::{BOARD_CAPS, Plan};
 use crate::progress::Progress;
 use crate::turn::{Turn, settle_least};
-use prv_board::Board;
+use prv_board::{Board, Ended};
 use prv_model::Pair;
 use prv_pool::{Cond, Pool, Region};
 use std::alloc::{AllocError, Global};
@@ -19,7 +20,9 @@ use std::sync::Arc;
 /// What was found of a pair, and why no more was.
 #[derive(Drop)]
 pub struct Explored {
+    /// What was found, as far as it was explored.
     pub board: Board,
+    /// Why no more was.
     pub ended: Ended,
 }
 
@@ -53,7 +56,7 @@ pub fn explore<P: Progress>(
 }
 
 /// The region of all inputs, which has no literals.
-fn all_inputs(alloc: Global) -> Result<Region, AllocError>
+pub(crate) fn all_inputs(alloc: Global) -> Result<Region, AllocError>
     ensures { IfOk result (λ region. region ≡ []) }
 {
     let pool = Arc::new(alloc, Pool::new(alloc, 0))?;
@@ -63,7 +66,7 @@ fn all_inputs(alloc: Global) -> Result<Region, AllocError>
 
 /// Settles entries of a board over all inputs until nothing is left, the plan's settlements are made, or
 /// the board is full. `progress` is told of each settlement.
-fn settle_all<P: Progress>(
+pub(crate) fn settle_all<P: Progress>(
     alloc: Global,
     board: &mut Board,
     plan: Plan,
@@ -71,8 +74,8 @@ fn settle_all<P: Progress>(
 ) -> Result<Ended, AllocError>
     requires some { 1 ≤ plan.lines }
     requires budget { plan.lines ≤ MAX_LINES }
-    requires fresh { board.old.replay ≡ unsettled board.old.replay.pair [] board_caps }
-    ensures explored { IfOk result (IsExploration board.old.replay.pair plan board.new.replay) }
+    requires fresh { board.old.replay ≡ unsettled board.old.replay.pair [] board.old.replay.caps }
+    ensures explored { IfOk result (IsExplorationWithin board.old.replay.caps board.old.replay.pair plan board.new.replay) }
 {
     let mut first = 0;
     for made in 0..plan.settlements {
@@ -82,21 +85,13 @@ fn settle_all<P: Progress>(
                 progress.made(made + 1, board.counts().unexplored);
             }
             Turn::Nothing => return Ok(Ended::Done),
-            Turn::Full {
-                entries,
-                numbers,
-                literals,
-            } => {
-                return Ok(Ended::Full {
-                    entries,
-                    numbers,
-                    literals,
-                });
-            }
+            Turn::Full(reached) => return Ok(Ended::Full(reached)),
         }
     }
     match board.next_claimable(first, plan.lines) {
         None => Ok(Ended::Done),
-        Some(_) => Ok(Ended::Settlements),
+        Some(_) => Ok(Ended::Settlements {
+            limit: plan.settlements,
+        }),
     }
 }

@@ -12,5 +12,5 @@ mod tests;
 mod turn;
 
 pub use exploring::{Explored, explore};
-pub use plan::{BOARD_CAPS, Ended, Plan};
+pub use plan::{BOARD_CAPS, Plan};
 pub use progress::{Progress, Quiet};

@@ -1,3 +1,5 @@
+//! How much work an exploration is allowed: the budget of each search, the count of settlements, and the caps of its
+//! board.
 use prv_part::Caps;
 
 /// How much work is to be done.
@@ -9,26 +11,9 @@ pub struct Plan {
     pub settlements: u32,
 }
 
-/// Why an exploration ended.
-#[derive(Clone, Copy, Debug, PartialEq, Eq)]
-pub enum Ended {
-    /// Nothing is left to be worked on with the plan's budget.
-    Done,
-    /// The plan's settlements were made, and something is left to be worked on.
-    Settlements,
-    /// The next settlement would pass a cap of the board. These are the totals that would be reached: of the
-    /// live entries, of the numbers of all settlements with the count of their parts, and of the literals of
-    /// the live entries.
-    Full {
-        entries: u32,
-        numbers: u64,
-        literals: u64,
-    },
-}
-
 /// The most that the board of an exploration may hold.
 pub const BOARD_CAPS: Caps = Caps {
     entries: 200_000,
-    numbers: 50_000_000,
+    numbers: 2_000_000_000,
     literals: 50_000_000,
 };

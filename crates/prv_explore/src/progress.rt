@@ -1,4 +1,4 @@
-//! Being told how far an exploration is.
+//! Being told how far an exploration is, which can take hours: who shows it to a user is told of each settlement.
 
 /// Is told how far an exploration is. What is found doesn't depend on it, and no clause speaks of it.
 pub trait Progress {

@@ -1,11 +1,11 @@
+//! Explorations of a small pair: to the end, for one settlement, and on a board that is too small.
 use crate::explore;
-use crate::plan::{BOARD_CAPS, Ended, Plan};
+use crate::exploring::{all_inputs, settle_all};
+use crate::plan::{BOARD_CAPS, Plan};
 use crate::progress::{Progress, Quiet};
-use crate::turn::{Turn, settle_least};
-use prv_board::Board;
+use prv_board::{Board, Ended};
 use prv_model::{BinOp, Expr, Name, Pair, Program, Stmt, UnOp};
 use prv_part::Caps;
-use prv_pool::{Cond, Pool, Region};
 use sqlite_items::{Boxed, Items};
 use std::alloc::{AllocError, Global};
 use std::sync::Arc;
@@ -134,7 +134,7 @@ fn one_settlement(rt: HostRuntime) -> Result<(), Fail> {
     };
     let explored = explore(alloc, pair(alloc)?, plan, &mut Quiet)?;
     assert!(rt;
-        explored.ended == Ended::Settlements,
+        explored.ended == Ended::Settlements { limit: 1 },
         "the settlements are made"
     );
     assert!(rt;
@@ -144,28 +144,23 @@ fn one_settlement(rt: HostRuntime) -> Result<(), Fail> {
     Ok(())
 }
 
-/// A board of three entries has no room for the second settlement, which has two parts.
+/// A board of three entries has no room for the second settlement, which has two parts, and stays as it was.
 #[test]
 fn full_board(rt: HostRuntime) -> Result<(), Fail> {
     let alloc = rt.alloc();
-    let space = Region::new(
-        Arc::new(alloc, Pool::new(alloc, 0))?,
-        Cond::new(Arc::new(alloc, Vec::new(alloc))?),
-    );
     let caps = Caps {
         entries: 3,
         ..BOARD_CAPS
     };
-    let mut board = Board::new(alloc, pair(alloc)?, space, caps)?;
-    let first = settle_least(alloc, &mut board, 0, 2_000)?;
-    assert!(rt;
-        first == Turn::Made { entry: 0 },
-        "all inputs are settled first"
-    );
-    match settle_least(alloc, &mut board, 0, 2_000)? {
-        Turn::Full { entries, .. } => assert!(rt; entries == 4, "four would be live"),
+    let plan = Plan {
+        lines: 2_000,
+        settlements: 1_000,
+    };
+    let mut board = Board::new(alloc, pair(alloc)?, all_inputs(alloc)?, caps)?;
+    match settle_all(alloc, &mut board, plan, &mut Quiet)? {
+        Ended::Full(reached) => assert!(rt; reached.entries == 4, "four would be live"),
         _ => return Err(Fail::from(AllocError)),
     }
-    assert!(rt; board.history().len() == 1, "the board stays");
+    assert!(rt; board.history().len() == 1, "one settlement was made");
     Ok(())
 }

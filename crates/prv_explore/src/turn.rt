@@ -1,4 +1,5 @@
-//! One turn of an exploration.
+//! One turn of an exploration: the least entry that can be worked on is settled, and the board takes what was found, or
+//! has no room for it.
 ghost use Rattle.std.specs.Prelude.{◌≡◌, ◌≤◌, [], true, IfOk, OnErr};
 ghost use Rattle.std.specs.List.{AllByRecursion};
 ghost use Rattle.prv_part.specs.Settlements.{IsSettlement};
@@ -9,7 +10,7 @@ ghost use Rattle.prv_settle.specs.Supported.{finding_of};
 ghost use Rattle.prv_settle.specs.declared.limits.TheConstants.{MAX_LINES};
 ghost use Rattle.prv_explore.specs.Turns.{NoneBelow, Turned, IsOfEntry};
 
-use prv_board::{ApplyError, Board};
+use prv_board::{ApplyError, Board, Totals};
 use prv_settle::{Options, Settled, settle};
 use std::alloc::{AllocError, Global};
 use std::sync::Arc;
@@ -18,17 +19,12 @@ use std::sync::Arc;
 #[derive(Clone, Copy, Debug, PartialEq, Eq)]
 pub enum Turn {
     /// The entry of this number was settled.
-    Made {
-        entry: u32,
-    },
+    Made { entry: u32 },
     /// No entry can be worked on.
     Nothing,
-    /// An entry was settled, but the board has no room for what was found.
-    Full {
-        entries: u32,
-        numbers: u64,
-        literals: u64,
-    },
+    /// An entry was settled, but the board has no room for what was found. These are the totals that would be
+    /// reached.
+    Full(Totals),
 }
 
 /// Settles the least entry that can be worked on with this budget, where none below `first` can be, and
@@ -53,17 +49,7 @@ pub fn settle_least(
     let settlement = Arc::try_clone(settled.settlement())?;
     match board.apply(settlement) {
         Ok(_) => Ok(Turn::Made { entry }),
-        Err(
-            ApplyError::Full {
-                entries,
-                numbers,
-                literals,
-            },
-        ) => Ok(Turn::Full {
-            entries,
-            numbers,
-            literals,
-        }),
+        Err(ApplyError::Full(reached)) => Ok(Turn::Full(reached)),
         Err(ApplyError::Memory) => Err(AllocError),
         Err(ApplyError::Stranger(_)) => unreachable!(),
     }

@@ -1,3 +1,4 @@
+//! Bits of a circuit: constants, which cost nothing, and literals of the formula.
 ghost use Rattle.std.specs.Prelude.{◌≡◌};
 ghost use Rattle.prv_cnf.specs.declared.formula.TheConstants.{MAX_VARS};
 ghost use Rattle.prv_gate.specs.Bits.{IsBit, negate_bit, flip_bit};

@@ -1,3 +1,5 @@
+//! The builder of a circuit: its formula, the gates that were made, and what unit propagation knows of them.
+//! Every gate goes through it, so sharing and known bits hold of all circuits alike.
 ghost use Rattle.std.specs.Prelude.{◌≡◌, ◌+◌, ◌<◌, ◌≤◌, ℕ, Bool, None, List, [], ◌∷◌, IfOk, IfSome, OnOk};
 ghost use Rattle.std.specs.List.{AllByRecursion};
 ghost use Rattle.prv_cnf.specs.Formulas.{IsLiteral};
@@ -24,9 +26,13 @@ use std::marker::Model;
 /// variables for it only where none that is known or was made before has that value.
 #[derive(Drop)]
 pub struct Builder {
+    /// The formula made so far.
     cnf: Cnf,
+    /// The gates that were made, each with the literal of its output.
     gates: IndexMap<Gate, Lit>,
+    /// What unit propagation knows of the formula.
     propagator: Propagator,
+    /// Whether the formula has a contradiction, behind which nothing is added.
     is_ended: bool,
 }
 

@@ -1,3 +1,5 @@
+//! Gates as keys of a table. Inputs are kept in one order and with signs moved to the output where the gate
+//! allows it, so that equal gates are one key and are made once.
 use prv_cnf::Lit;
 
 /// A gate: how the value of its output comes from its inputs.

@@ -10,6 +10,7 @@ use std::marker::Model;
 /// The numbers of some clauses.
 #[derive(Drop)]
 struct Numbers {
+    /// Numbers of clauses, in the order in which they were entered.
     items: Vec<u32>,
 }
 
@@ -47,6 +48,7 @@ impl Numbers {
 /// For each literal the numbers of the clauses that were entered under it, by the literal's place.
 #[derive(Drop)]
 pub(crate) struct Occurrences {
+    /// For each literal, by its place, the clauses that hold it.
     lists: Vec<Numbers>,
 }
 

@@ -13,7 +13,9 @@ use std::alloc::{AllocError, Global};
 /// What is known of the variables: all that follows from the first clauses.
 #[derive(Drop)]
 pub(crate) struct Propagator {
+    /// For each variable the value that is known of it, if one is.
     known: Vec<Option<bool>>,
+    /// The clauses in which a literal stands.
     occurrences: Occurrences,
     /// How many clauses were entered. All that follows from them is known.
     entered: u32,

@@ -1,3 +1,4 @@
+//! Gates and assertions, each with what unit propagation makes of it.
 ghost use Rattle.prv_gate.specs.Bits.{IsBit};
 
 use super::*;

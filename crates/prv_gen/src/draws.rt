@@ -1,9 +1,12 @@
+//! The generator of numbers that the pairs for trials are drawn from. It is of the plainest kind, so that
+//! anybody can compute the same texts.
 ghost use Rattle.std.specs.Prelude.{◌≡◌, ◌<◌};
 ghost use Rattle.prv_gen.specs.Generated.{next_state, drawn as drawn_of};
 
 /// A generator of numbers below 100: a linear congruential one, modulo 2^32.
 #[derive(Debug, Drop)]
 pub struct Draws {
+    /// The state behind the last draw; at first the number that the pair is made from.
     pub state: u32,
 }
 

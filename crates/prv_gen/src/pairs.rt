@@ -1,3 +1,5 @@
+//! Texts of pairs for trials, made from a number: a chain of tests, of which one version returns one more where
+//! the parameters are equal. The number of regions grows with the size, so these show how costs grow.
 ghost use Rattle.std.specs.Prelude.{◌≡◌, ◌≤◌, ◌++◌, IfOk, OnOk, codes, decimal};
 ghost use Rattle.prv_gen.specs.Generated.{before_text, after_text, program, test_line, test_lines, line};
 
@@ -8,7 +10,9 @@ use std::alloc::{AllocError, Global};
 /// The texts of two versions.
 #[derive(Debug, Drop)]
 pub struct Texts {
+    /// The text of the version as it was.
     pub before: Vec<u8>,
+    /// The text of the version as it is.
     pub after: Vec<u8>,
 }
 

@@ -1,3 +1,4 @@
+//! The pair of one number, worked out by hand.
 use crate::generate;
 use std::test::Fail;
 

@@ -11,7 +11,7 @@ use Rattle.prv_sym.specs.Symbols.{Symbol, symbol, after}
 use Rattle.prv_select.specs.Choices.{Chosen, keeps, needs, matters, choose, count, no_mark}
 use Rattle.prv_select.proofs.Flags.{one-flag-each}
 use Rattle.prv_general.specs.Slices.{literals_of, literals, conditions_named, literals_named, outs_of, out_terms}
-use Rattle.prv_general.specs.Walks.{conditions, condition_names, event_outs, Flagged, flagged, if_kept, along}
+use Rattle.prv_general.specs.Conditions.{conditions, condition_names, event_outs, Flagged, flagged, if_kept, along}
 
 -- ---- lists
 

@@ -27,7 +27,7 @@ use Rattle.prv_sym.specs.Symbols.{symbol, after, after_use}
 use Rattle.prv_sym.specs.Judgements.{AreTerms, IsSaid, state_of, has_value}
 use Rattle.prv_sym.proofs.SymbolLaws.{symbol-said, zero-flag}
 use Rattle.prv_select.specs.Choices.{Chosen, with_vars, without, keeps, needs, matters, choose, count, no_mark}
-use Rattle.prv_general.specs.Slices.{decided, literals_of, literals, outs_of, out_terms}
+use Rattle.prv_general.specs.Slices.{branch_condition, literals_of, literals, outs_of, out_terms}
 use Rattle.prv_general.proofs.Environments.{is-after}
 
 -- the two runs stand alike: g is the frame of the one, f that of the other
@@ -77,9 +77,9 @@ goes-alike n y env e rest said h =
     let w = value e (state_of env y) in
     some-value w (flag-says (has_value w) _ said.judged.safe (and-left _ _ h))
 
-decided-says : (n : ℕ) (y : List ℤ) (t : Term) (z : Bool) (k : ℤ) → All IsWord y → IsTerm n t → term_value t y ≡ k →
+branch_condition-says : (n : ℕ) (y : List ℤ) (t : Term) (z : Bool) (k : ℤ) → All IsWord y → IsTerm n t → term_value t y ≡ k →
     not (is_zero (term_value (if z then negation (truth_of t) else truth_of t) y)) ≡ true → is_zero k ≡ z
-decided-says n y t true k words term is h =
+branch_condition-says n y t true k words term is h =
     let at : term_value (negation (truth_of t)) y ≡ flag (not (not (is_zero k))) =
     negation-value n (truth_of t) y (truth-term n t term) words ∙ rw (truth-value n t y term words, is, zero-flag (not (is_zero k))) refl in
     not-not-true (is_zero k) (flag-says (not (not (is_zero k))) _ at h)
@@ -87,7 +87,7 @@ decided-says n y t true k words term is h =
     not-not-true : (p : Bool) → not (not p) ≡ true → p ≡ true
     not-not-true true e = refl
     not-not-true false e = e
-decided-says n y t false k words term is h =
+branch_condition-says n y t false k words term is h =
     let at : term_value (truth_of t) y ≡ flag (not (is_zero k)) = truth-value n t y term words ∙ rw is refl in
     not-true (is_zero k) (flag-says (not (is_zero k)) _ at h)
 
@@ -239,14 +239,14 @@ return-locked n y words num e (Some a) g f env needed said m h =
     rw some (put-locked n y num Use.Returns e g f env needed a found.0 (Some Returned) refl refl (said.judged.term found.0 found.1) (without-vars y env e needed g f m))
 
 -- a test or an assertion decides alike
-decides-alike : (n : ℕ) (y : List ℤ) (env : List Term) (e : Expr) (a : ℤ) → All IsWord y → IsSaid n y env e → holds ((symbol e env).safe ∷ (decided a (symbol e env).term ∷ [])) y ≡ true →
+decides-alike : (n : ℕ) (y : List ℤ) (env : List Term) (e : Expr) (a : ℤ) → All IsWord y → IsSaid n y env e → holds ((symbol e env).safe ∷ (branch_condition a (symbol e env).term ∷ [])) y ≡ true →
     (k : ℤ) × (value e (state_of env y) ≡ Some k) × (is_zero k ≡ is_zero a)
 decides-alike n y env e a words said h =
-    let found = goes-alike n y env e (decided a (symbol e env).term ∷ []) said h in (
+    let found = goes-alike n y env e (branch_condition a (symbol e env).term ∷ []) said h in (
       found.0,
       found.1,
-      decided-says n y (symbol e env).term (is_zero a) found.0 words said.over.term (said.judged.term found.0 found.1)
-          (second-holds (symbol e env).safe (decided a (symbol e env).term) y h),
+      branch_condition-says n y (symbol e env).term (is_zero a) found.0 words said.over.term (said.judged.term found.0 found.1)
+          (second-holds (symbol e env).safe (branch_condition a (symbol e env).term) y h),
     )
 
 assert-locked : (n : ℕ) (y : List ℤ) (words : All IsWord y) (num : ℕ) (e : Expr) (v : Option ℤ) (g f : Frame) (env : List Term) (needed : ℕ → Bool) → IsSaid n y env e →

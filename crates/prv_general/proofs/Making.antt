@@ -12,19 +12,19 @@ use Rattle.prv_run.specs.declared.event.Event.{Event}
 use Rattle.prv_sym.specs.Calls.{Names, AllStand, symbol_at}
 use Rattle.prv_sym.specs.Symbols.{Symbol}
 use Rattle.prv_sym.proofs.Naming.{Grows, grows-none, symbol-kept, names-as, names-then, names-stop, names-one}
-use Rattle.prv_general.specs.Slices.{says_something, decided, decided_named}
-use Rattle.prv_general.specs.Walks.{decides, decision, decision_names, conditions, condition_names, Flagged, flagged, if_kept, along, symbols_at}
+use Rattle.prv_general.specs.Slices.{says_something, branch_condition, branch_condition_named}
+use Rattle.prv_general.specs.Conditions.{decides, decision, decision_names, conditions, condition_names, Flagged, flagged, if_kept, along, symbols_at}
 use Rattle.prv_general.proofs.Alongs.{along-more, along-rest}
 
 -- what is said of an evaluation by cases
-pub named-zero : (n : ℤ) (t : Term) → is_zero n ≡ true → decided_named n t ≡ truth t ∷ negation (truth t) ∷ []
+pub named-zero : (n : ℤ) (t : Term) → is_zero n ≡ true → branch_condition_named n t ≡ truth t ∷ negation (truth t) ∷ []
 named-zero n t e = ap (λ (b : Bool). truth t ∷ (if b then negation (truth t) else truth t) ∷ []) e
 
-pub named-other : (n : ℤ) (t : Term) → is_zero n ≡ false → decided_named n t ≡ truth t ∷ truth t ∷ []
+pub named-other : (n : ℤ) (t : Term) → is_zero n ≡ false → branch_condition_named n t ≡ truth t ∷ truth t ∷ []
 named-other n t e = ap (λ (b : Bool). truth t ∷ (if b then negation (truth t) else truth t) ∷ []) e
 
-pub decision-is : (event : Event) (t : Term) → decides event.what ≡ true → decision event t ≡ decided event.value t ∷ []
-decision-is event t e = ap (λ (b : Bool). if b then decided event.value t ∷ [] else []) e
+pub decision-is : (event : Event) (t : Term) → decides event.what ≡ true → decision event t ≡ branch_condition event.value t ∷ []
+decision-is event t e = ap (λ (b : Bool). if b then branch_condition event.value t ∷ [] else []) e
 
 pub fault-conditions : (event : Event) (s : Symbol) → event.safe ≡ false → conditions event s ≡ negation s.safe ∷ []
 fault-conditions event s e = ap (λ (b : Bool). if b then s.safe ∷ decision event s.term else negation s.safe ∷ []) e

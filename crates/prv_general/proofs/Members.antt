@@ -32,13 +32,13 @@ flag-holds v e = ap (λ (z : ℤ). not (is_zero z)) e
 both : (p q : Bool) → p ≡ true → q ≡ true → (p && q) ≡ true
 both p q h k = rw (h, k) refl
 
-decided-holds : (n : ℕ) (x : List ℤ) (t : Term) (z : Bool) (a : ℤ) → All IsWord x → IsTerm n t → term_value t x ≡ a → is_zero a ≡ z →
+branch_condition-holds : (n : ℕ) (x : List ℤ) (t : Term) (z : Bool) (a : ℤ) → All IsWord x → IsTerm n t → term_value t x ≡ a → is_zero a ≡ z →
     not (is_zero (term_value (if z then negation (truth_of t) else truth_of t) x)) ≡ true
-decided-holds n x t true a words term is none =
+branch_condition-holds n x t true a words term is none =
     let at : term_value (negation (truth_of t)) x ≡ flag true =
     negation-value n (truth_of t) x (truth-term n t term) words ∙ rw (truth-value n t x term words, is, none) refl in
     flag-holds _ at
-decided-holds n x t false a words term is some =
+branch_condition-holds n x t false a words term is some =
     let at : term_value (truth_of t) x ≡ flag true = truth-value n t x term words ∙ rw (is, some) refl in
     flag-holds _ at
 
@@ -51,7 +51,7 @@ eval-holds n x words why e None env said is =
     both _ _ (flag-holds _ at) refl
 eval-holds n x words why e (Some a) env said is =
     let safe = flag-holds (term_value (symbol e env).safe x) (said.judged.safe ∙ ap (λ (o : Option ℤ). flag (has_value o)) (sym is)) in
-    let decides = decided-holds n x (symbol e env).term (is_zero a) a words said.over.term (said.judged.term a (sym is)) refl in
+    let decides = branch_condition-holds n x (symbol e env).term (is_zero a) a words said.over.term (said.judged.term a (sym is)) refl in
     elim why as (λ u. holds (literals_of u e (Some a) env) x ≡ true) [
       | Use.Sets var ↦ both _ _ safe refl
       | Use.Puts ↦ both _ _ safe refl

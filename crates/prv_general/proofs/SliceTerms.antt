@@ -23,7 +23,7 @@ use Rattle.prv_sym.specs.Symbols.{symbol, after, after_use, start_terms}
 use Rattle.prv_sym.specs.Judgements.{AreTerms, AreOver}
 use Rattle.prv_sym.proofs.SymbolLaws.{symbol-said, num-term}
 use Rattle.prv_select.specs.Choices.{keeps, matters, choose, nothing}
-use Rattle.prv_general.specs.Slices.{slice, literals, literals_of, decided, out_terms, outs_of, end_terms, says_something}
+use Rattle.prv_general.specs.Slices.{slice, literals, literals_of, branch_condition, out_terms, outs_of, end_terms, says_something}
 use Rattle.prv_general.proofs.SliceLaws.{start-over, start-length}
 use Rattle.prv_general.proofs.Environments.{no-words, set-terms}
 
@@ -153,16 +153,16 @@ run-left n (Run.Then a b) env o t =
 run-left n (Run.Choice k test chosen other inner) env o t = run-left n inner env o t
 run-left n (Run.Mark mark inner) env o t = run-left n inner env o t
 
-decided-term : (n : ℕ) (k : ℤ) (t : Term) → IsTerm n t → IsTerm n (decided k t)
-decided-term n k t h = elim (is_zero k) as (λ z. IsTerm n (if z then negation (truth_of t) else truth_of t)) [
+branch_condition-term : (n : ℕ) (k : ℤ) (t : Term) → IsTerm n t → IsTerm n (branch_condition k t)
+branch_condition-term n k t h = elim (is_zero k) as (λ z. IsTerm n (if z then negation (truth_of t) else truth_of t)) [
   | true ↦ negation-term n (truth_of t) (truth-term n t h)
   | false ↦ truth-term n t h
 ]
 
 literals-of : (n : ℕ) (why : Use) (e : Expr) (v : Option ℤ) (env : List Term) → AreOver n (symbol e env) → AllByRecursion (IsTerm n) (literals_of why e v env)
 literals-of n why e None env s = (negation-term n (symbol e env).safe s.safe, tt)
-literals-of n Use.Tests e (Some k) env s = (s.safe, (decided-term n k (symbol e env).term s.term, tt))
-literals-of n Use.Asserts e (Some k) env s = (s.safe, (decided-term n k (symbol e env).term s.term, tt))
+literals-of n Use.Tests e (Some k) env s = (s.safe, (branch_condition-term n k (symbol e env).term s.term, tt))
+literals-of n Use.Asserts e (Some k) env s = (s.safe, (branch_condition-term n k (symbol e env).term s.term, tt))
 literals-of n (Use.Sets w) e (Some k) env s = (s.safe, tt)
 literals-of n Use.Puts e (Some k) env s = (s.safe, tt)
 literals-of n Use.Returns e (Some k) env s = (s.safe, tt)

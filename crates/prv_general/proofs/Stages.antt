@@ -19,7 +19,7 @@ use Rattle.prv_sym.specs.Symbols.{start_terms}
 use Rattle.prv_sym.proofs.Naming.{Grows, names-as}
 use Rattle.prv_general.specs.Answers.{IsTraced}
 use Rattle.prv_general.specs.Slices.{literals, literals_named, out_terms, end_terms, says_something}
-use Rattle.prv_general.specs.Walks.{conditions, condition_names, event_outs, flagged, if_kept, along, symbols_at, end_by}
+use Rattle.prv_general.specs.Conditions.{conditions, condition_names, event_outs, flagged, if_kept, along, symbols_at, end_by}
 use Rattle.prv_general.proofs.Standing.{all-on, all-in, all-long, symbols-are}
 use Rattle.prv_general.proofs.Whole.{nodes-long, end-is, literals-are, names-are, outs-are}
 

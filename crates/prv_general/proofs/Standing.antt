@@ -15,7 +15,7 @@ use Rattle.prv_sym.specs.Calls.{StandsFor, AllStand}
 use Rattle.prv_sym.specs.Symbols.{Symbol}
 use Rattle.prv_sym.proofs.Naming.{Grows, stands-on, stands-in, stands-at}
 use Rattle.prv_general.specs.Slices.{says_something}
-use Rattle.prv_general.specs.Walks.{node_is_one, puts, event_outs, symbols_at}
+use Rattle.prv_general.specs.Conditions.{node_is_one, puts, event_outs, symbols_at}
 
 -- in a table that has grown
 pub all-on : (old new : List Term) → Grows old new → (ns : List ℕ) (ts : List Term) → AllStand old ns ts → AllStand new ns ts

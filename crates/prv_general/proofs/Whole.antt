@@ -24,7 +24,7 @@ use Rattle.prv_general.specs.declared.error.GeneralError.{GeneralError}
 use Rattle.prv_general.specs.declared.error.GeneralError.TheVariants as general
 use Rattle.prv_general.specs.Answers.{passed_on}
 use Rattle.prv_general.specs.Slices.{literals, literals_named, out_terms, end_terms}
-use Rattle.prv_general.specs.Walks.{conditions, condition_names, event_outs, flagged, if_kept, along, end_by}
+use Rattle.prv_general.specs.Conditions.{conditions, condition_names, event_outs, flagged, if_kept, along, end_by}
 use Rattle.prv_general.proofs.SliceLaws.{fixes-outcome, holds-member}
 use Rattle.prv_general.proofs.Alongs.{literals-run, named-run, outs-run, symbols-length}
 use Rattle.prv_general.proofs.Standing.{all-long}

@@ -1,3 +1,3 @@
 pub mod Slices
-pub mod Walks
+pub mod Conditions
 pub mod Answers

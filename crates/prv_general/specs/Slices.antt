@@ -15,14 +15,14 @@ use Rattle.prv_sym.specs.Symbols.{symbol, after, start_terms}
 use Rattle.prv_select.specs.Choices.{keeps, matters, choose, nothing, rising}
 
 -- that a term is nonzero, where it was, and that it is 0, where it was
-abbrev pub decided : ℤ → Term → Term
-decided n t = if is_zero n then negation (truth_of t) else truth_of t
+abbrev pub branch_condition : ℤ → Term → Term
+branch_condition n t = if is_zero n then negation (truth_of t) else truth_of t
 
 -- the conditions of one evaluation: that it faults, or that it doesn't and that it decides as it did
 abbrev pub literals_of : Use → Expr → Option ℤ → List Term → List Term
 literals_of why e None env = negation (symbol e env).safe ∷ []
-literals_of Use.Tests e (Some n) env = (symbol e env).safe ∷ (decided n (symbol e env).term ∷ [])
-literals_of Use.Asserts e (Some n) env = (symbol e env).safe ∷ (decided n (symbol e env).term ∷ [])
+literals_of Use.Tests e (Some n) env = (symbol e env).safe ∷ (branch_condition n (symbol e env).term ∷ [])
+literals_of Use.Asserts e (Some n) env = (symbol e env).safe ∷ (branch_condition n (symbol e env).term ∷ [])
 literals_of _ e (Some n) env = (symbol e env).safe ∷ []
 
 -- the conditions of what is kept of a run, in its order, where these variables are needed behind it
@@ -48,13 +48,13 @@ out_terms (Run.Choice k test chosen other inner) env = out_terms inner env
 out_terms (Run.Mark mark inner) env = out_terms inner env
 
 -- what is named for the conditions of one evaluation: each condition, and the truth on the way to it
-abbrev pub decided_named : ℤ → Term → List Term
-decided_named n t = truth_of t ∷ decided n t ∷ []
+abbrev pub branch_condition_named : ℤ → Term → List Term
+branch_condition_named n t = truth_of t ∷ branch_condition n t ∷ []
 
 abbrev pub conditions_named : Use → Expr → Option ℤ → List Term → List Term
 conditions_named why e None env = negation (symbol e env).safe ∷ []
-conditions_named Use.Tests e (Some n) env = decided_named n (symbol e env).term
-conditions_named Use.Asserts e (Some n) env = decided_named n (symbol e env).term
+conditions_named Use.Tests e (Some n) env = branch_condition_named n (symbol e env).term
+conditions_named Use.Asserts e (Some n) env = branch_condition_named n (symbol e env).term
 conditions_named _ e (Some n) env = []
 
 -- what is named for the conditions of what is kept of a run

@@ -1,3 +1,4 @@
+//! Why no slice was made, and how the refusals of a pool and of the allocator become such answers.
 use prv_pool::PoolError;
 use std::alloc::AllocError;
 use thiserror::Error;

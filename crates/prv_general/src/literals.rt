@@ -1,15 +1,20 @@
+//! The conditions of a slice: what has to hold of an input so that the run takes the same way.
+//!
+//! They are the path condition of the evaluations that are kept: of each its safety, or that it faults, and
+//! of a test or an assertion also that it is on the same side. A condition that folds to the number 1 says
+//! nothing and is left out.
 ghost use Rattle.std.specs.Prelude.{◌≡◌, ◌<◌, List, [], ◌∷◌, ◌++◌, length, filter, All, IfOk, OnOk};
 ghost use Rattle.prv_model.specs.Words.{is_zero as is_zero_of};
 ghost use Rattle.prv_model.specs.declared.term.Term.{Term};
 ghost use Rattle.prv_pool.specs.Nodes.{node_term};
 ghost use Rattle.prv_pool.specs.Tables.{term_at};
 ghost use Rattle.prv_sym.specs.Calls.{Names, StandsFor, AreIn, AllStand, symbol_at};
-ghost use Rattle.prv_general.specs.Slices.{says_something as says_something_of, decided as decided_of, decided_named};
-ghost use Rattle.prv_general.specs.Walks.{node_is_one, decision, decision_names, conditions, condition_names, decides as decides_of, flagged, if_kept, along, symbols_at};
+ghost use Rattle.prv_general.specs.Slices.{says_something as says_something_of, branch_condition as branch_condition_of, branch_condition_named};
+ghost use Rattle.prv_general.specs.Conditions.{node_is_one, decision, decision_names, conditions, condition_names, decides as decides_of, flagged, if_kept, along, symbols_at};
 
 use prv_pool::{Node, Pool, PoolError};
 use prv_run::{Event, What};
-use prv_sym::Nodes;
+use prv_sym::SymbolNodes;
 use sqlite_items::Items;
 use std::alloc::{AllocError, Global};
 
@@ -33,7 +38,7 @@ pub fn literals(
 {
     let mut literals = Items::new(alloc);
     for k in 0..events.len() {
-        let nodes = Nodes {
+        let nodes = SymbolNodes {
             value: values[k],
             safe: safes[k],
         };
@@ -46,7 +51,7 @@ pub fn literals(
 fn add_if_kept(
     kept: bool,
     event: Event,
-    nodes: Nodes,
+    nodes: SymbolNodes,
     literals: &mut Items<u32>,
     pool: &mut Pool,
 ) -> Result<(), PoolError>
@@ -65,7 +70,7 @@ fn add_if_kept(
 /// Adds the conditions of an evaluation: that it faults, or that it doesn't and that it decides as it did.
 fn add_conditions(
     event: Event,
-    nodes: Nodes,
+    nodes: SymbolNodes,
     literals: &mut Items<u32>,
     pool: &mut Pool,
 ) -> Result<(), PoolError>
@@ -97,8 +102,8 @@ fn add_decision(
     ensures names { Names (decision_names event (term_at pool.old.terms value)) pool.old pool.new result }
 {
     if decides(event.what) {
-        let decided = decided(event, value, pool)?;
-        add(decided, literals, pool)?;
+        let condition = branch_condition(event, value, pool)?;
+        add(condition, literals, pool)?;
         Ok(())
     } else {
         Ok(())
@@ -113,10 +118,10 @@ fn decides(what: What) -> bool
 }
 
 /// The node that a term is nonzero, where the evaluation's word is, and that it is 0, where the word is 0.
-fn decided(event: Event, node: u32, pool: &mut Pool) -> Result<u32, PoolError>
+fn branch_condition(event: Event, node: u32, pool: &mut Pool) -> Result<u32, PoolError>
     requires { node < length pool.old.terms }
-    ensures stands { IfOk result (λ n. StandsFor pool.new.terms n (decided_of event.value (term_at pool.old.terms node))) }
-    ensures names { Names (decided_named event.value (term_at pool.old.terms node)) pool.old pool.new result }
+    ensures stands { IfOk result (λ n. StandsFor pool.new.terms n (branch_condition_of event.value (term_at pool.old.terms node))) }
+    ensures names { Names (branch_condition_named event.value (term_at pool.old.terms node)) pool.old pool.new result }
 {
     let truth = pool.truth(node)?;
     if is_zero(event) {

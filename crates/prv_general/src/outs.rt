@@ -1,8 +1,9 @@
+//! What a slice puts out: the nodes of the words that the run puts out, as terms over the parameters.
 ghost use Rattle.std.specs.Prelude.{◌≡◌, List, [], ◌∷◌, ◌++◌, length, pos, IfOk, OnOk};
 ghost use Rattle.prv_model.specs.declared.term.Term.{Term};
 ghost use Rattle.prv_model.specs.declared.term.Term.TheVariants.{Num};
 ghost use Rattle.prv_sym.specs.Calls.{Names, StandsFor, AllStand};
-ghost use Rattle.prv_general.specs.Walks.{along, event_outs, puts as puts_of, end_by};
+ghost use Rattle.prv_general.specs.Conditions.{along, event_outs, puts as puts_of, end_by};
 
 use prv_pool::{Pool, PoolError};
 use prv_run::{Event, What};

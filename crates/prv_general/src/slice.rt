@@ -1,3 +1,9 @@
+//! The slice of a program at an input.
+//!
+//! The program is run once, with its evaluations recorded. Of these the choice keeps those that what is
+//! shown depends on; each evaluation gets a term over the parameters; and the conditions are those of what
+//! is kept. So the slice says of every input that meets them what the run says of its own: the generalisation
+//! step of concolic execution, with fewer conditions than the whole path has.
 ghost use Rattle.std.specs.Prelude.{◌≡◌, ℕ, ℤ, ◌<◌, ◌≤◌, List, ◌++◌, length, map, true, Err, IfOk, OnOk};
 ghost use Rattle.prv_model.specs.Boards.{IsInput};
 ghost use Rattle.prv_model.specs.Outcomes.{outcome};
@@ -14,7 +20,7 @@ use crate::error::GeneralError;
 use crate::literals::literals;
 use crate::outs::{add_end, outs};
 use prv_dep::Writes;
-use prv_model::{Ending, Input, Program};
+use prv_model::{Ending, Input, Outcome, Program};
 use prv_pool::{Pool, PoolError};
 use prv_run::{Traced, trace};
 use prv_select::select;
@@ -36,6 +42,8 @@ pub struct Slice {
     pub how: Ending,
     /// The marks that contribute, in rising order.
     pub marks: Items<u8>,
+    /// What the program did at the input that the slice is made from.
+    pub outcome: Outcome,
 }
 
 /// The slice of a program at an input, under a bound on the turns of its loops, however many literals it
@@ -57,6 +65,7 @@ pub fn slice_at(
     ensures slice { IfOk result (λ s. IsSlice pool.new.terms s (slice program.now turns input.now)) }
     ensures fixes { IfOk result (λ s. (y : List ℤ) → IsInput program.now.params y → holds (terms_at pool.new.terms s.literals) y ≡ true →
         outcome program.now turns y ≡ record { outs = map (λ t. term_value t y) (terms_at pool.new.terms s.outs); how = s.how }) }
+    ensures outcome { IfOk result (λ s. s.outcome ≡ outcome program.now turns input.now) }
     ensures member { IfOk result (λ s. holds (terms_at pool.new.terms s.literals) input.now ≡ true) }
     ensures names { Names (slice_named program.now turns input.now) pool.old pool.new result }
 {
@@ -70,6 +79,7 @@ pub fn slice_at(
         outs: nodes.outs,
         how: traced.outcome.how,
         marks: chosen.marks,
+        outcome: traced.outcome,
     })
 }
 
@@ -87,6 +97,7 @@ pub fn generalise(
     ensures slice { IfOk result (λ s. IsSlice pool.new.terms s (slice program.now turns input.now)) }
     ensures fixes { IfOk result (λ s. (y : List ℤ) → IsInput program.now.params y → holds (terms_at pool.new.terms s.literals) y ≡ true →
         outcome program.now turns y ≡ record { outs = map (λ t. term_value t y) (terms_at pool.new.terms s.outs); how = s.how }) }
+    ensures outcome { IfOk result (λ s. s.outcome ≡ outcome program.now turns input.now) }
     ensures member { IfOk result (λ s. holds (terms_at pool.new.terms s.literals) input.now ≡ true) }
     ensures grows { OnOk result (pool.new.terms ≡ add_terms pool.old.terms (slice_named program.now turns input.now)) }
     ensures counted { result ≡ Err GeneralError.Literals → pool.new.terms ≡ add_terms pool.old.terms (slice_named program.now turns input.now) }
@@ -105,8 +116,10 @@ pub fn generalise(
 
 /// The nodes of a slice.
 #[derive(Drop)]
-struct Nodes {
+struct SliceNodes {
+    /// Those of its conditions.
     literals: Items<u32>,
+    /// Those of what it puts out.
     outs: Items<u32>,
 }
 
@@ -117,7 +130,7 @@ fn make_nodes(
     traced: &Traced,
     kept: &[bool],
     pool: &mut Pool,
-) -> Result<Nodes, PoolError>
+) -> Result<SliceNodes, PoolError>
     requires { (x : List ℤ) × (turns : ℕ) × IsTraced program.now turns x traced.now × (kept.now ≡ (choose (run_of program.now turns x) nothing).kept) }
     ensures literals { (x : List ℤ) (turns : ℕ) → IsTraced program.now turns x traced.now → kept.now ≡ (choose (run_of program.now turns x) nothing).kept →
         IfOk result (λ n. AllStand pool.new.terms n.literals (slice program.now turns x).literals) }
@@ -132,5 +145,5 @@ fn make_nodes(
     let mut outs = outs(alloc, events, values)?;
     add_end(&mut outs, traced.outcome.outs.len(), pool)?;
     let literals = literals(alloc, events, kept, values, symbols.safes.as_slice(), pool)?;
-    Ok(Nodes { literals, outs })
+    Ok(SliceNodes { literals, outs })
 }

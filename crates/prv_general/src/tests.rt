@@ -1,3 +1,5 @@
+//! Slices worked out by hand. What no clause excludes is a body that always lacks memory, and one that is
+//! refused by a pool that has just the room.
 use crate::{GeneralError, Slice, generalise};
 use prv_model::{BinOp, Ending, Expr, Input, Name, Program, Stmt};
 use prv_pool::Pool;

@@ -1,15 +1,19 @@
-//! Which calls of an object in memory are to fail, and how many did.
-ghost use Rattle.std.specs.Prelude.{◌≡◌, ◌==◌, ◌||◌, ◌≤◌};
+//! Injection of faults: an object that stands in for a device counts its calls, and fails those that it was told to
+//! fail when it was made. So every path behind a fault can be run at will, and a contract can say when each fault comes.
+ghost use Rattle.std.specs.Prelude.{◌≡◌, ◌==◌, ◌≤◌};
 ghost use Rattle.std.specs.List.{list_any};
 ghost use Rattle.prv_io.specs.FaultPlan.{fresh, is_to_fail, after_call};
 
 use std::marker::Model;
 
-/// The calls of an object so far, and the numbers, from 1, of those that are to fail.
+/// Which calls of an object in memory are to fail, and how many did. Both counts stand still at 2^64 - 1.
 #[derive(Debug, Drop)]
 pub struct FaultPlan {
+    // The numbers, from 1, of the calls that are to fail.
     fail: Vec<u32>,
+    // How many calls there were.
     calls: u64,
+    // How many of them failed.
     faults: u64,
 }
 
@@ -28,6 +32,7 @@ fn has_number(numbers: &[u32], number: u64) -> bool
 }
 
 impl FaultPlan {
+    /// Before the first call. `fail` holds the numbers, from 1, of the calls that are to fail.
     pub fn new(fail: Vec<u32>) -> FaultPlan
         ensures { result ≡ fresh fail.items }
     {
@@ -38,23 +43,28 @@ impl FaultPlan {
         }
     }
 
+    /// How many calls have failed.
     pub fn faults(&self) -> u64
         ensures { result ≡ self.now.faults }
     {
         self.faults
     }
 
-    /// Counts a call, and answers whether it fails: it is to fail, or it `cannot_succeed`.
-    pub fn count_call(&mut self, cannot_succeed: bool) -> bool
-        ensures fails { result ≡ (is_to_fail self.old || cannot_succeed) }
-        ensures after { self.new ≡ after_call result self.old }
+    /// Whether the next call is to fail.
+    pub fn is_to_fail(&self) -> bool
+        ensures { result ≡ is_to_fail self.now }
+    {
+        has_number(&self.fail, self.calls.saturating_add(1))
+    }
+
+    /// Counts a call, and a fault where it `fails`.
+    pub fn count_call(&mut self, fails: bool)
+        ensures after { self.new ≡ after_call fails self.old }
         ensures never_falls { self.old.faults ≤ self.new.faults }
     {
         self.calls = self.calls.saturating_add(1);
-        let fails = has_number(&self.fail, self.calls) || cannot_succeed;
         if fails {
             self.faults = self.faults.saturating_add(1);
         }
-        fails
     }
 }

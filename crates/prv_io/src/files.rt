@@ -1,4 +1,5 @@
-//! Files that are read whole, by name.
+//! Files that are read whole, by name, as the program sees them: a trait, since what a real file has can't be told. A
+//! fault is answered exactly where the object counted one, so that whoever reports a fault can be held to it.
 ghost use Rattle.std.specs.Prelude.{◌≡◌, ℕ, ◌≤◌, List, [], length, ⊤, OnOk, OnErr, IsErrOf};
 ghost use Rattle.prv_io.specs.declared.files.FileError.TheVariants.{Memory};
 ghost use Rattle.prv_io.specs.Faults.{Rose};

@@ -1,4 +1,5 @@
-//! The real file system. No clause says what a file has.
+//! The real file system behind the trait `Files`. No clause says what a file has: that the bytes are those of the file
+//! is tested over real ones.
 ghost use Rattle.std.specs.Prelude.{◌≡◌, ◌<◌, ◌≤◌, length, IfOk, IfSome};
 ghost use Rattle.std.specs.Bool.{OnTrue, OnFalse};
 
@@ -10,7 +11,9 @@ use std::{fs, io, rt};
 /// The files of a runtime's file system, by their paths. It tells nothing of what they have.
 #[derive(Drop)]
 pub struct HostFiles<R: rt::Files> {
+    // What reaches the file system.
     rt: R,
+    // How many reads have failed. It stands still at 2^64 - 1.
     faults: u64,
 }
 

@@ -1,4 +1,5 @@
-//! A real output. No clause says what it has taken.
+//! A real output behind the trait `Sink`. No clause says what it has taken: that it is the bytes in order is tested
+//! over writers that are slow, interrupted and full.
 ghost use Rattle.std.specs.Prelude.{◌≡◌, ◌<◌, ◌≤◌, length, take, IfOk, IfSome, IfNone, OnErr};
 ghost use Rattle.std.specs.Io.KnownBytes.{Appends, Keeps};
 
@@ -10,7 +11,9 @@ use std::marker::Model;
 /// A writer of std as a sink. It tells nothing of what it has taken.
 #[derive(Drop)]
 pub struct HostSink<W: Write> {
+    // What the bytes go to.
     out: W,
+    // How many writes have failed. It stands still at 2^64 - 1.
     faults: u64,
 }
 

@@ -1,5 +1,6 @@
 //! Files to read from and sinks to write to, as traits with a count of faults: a fault is answered only
-//! where the count rose. In memory they tell what they have; the adapters of the real ones tell nothing.
+//! where the count rose. In memory they tell what they have, and fail the calls that a plan of faults names; the
+//! adapters of the real ones tell nothing.
 #![tactic(auto)]
 
 mod fault_plan;
@@ -12,6 +13,7 @@ mod sink;
 #[cfg(test)]
 mod tests;
 
+pub use fault_plan::FaultPlan;
 pub use files::{FileError, Files};
 pub use host_files::HostFiles;
 pub use host_sink::HostSink;

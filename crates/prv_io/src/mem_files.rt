@@ -1,18 +1,20 @@
-//! Files in memory.
+//! Files in memory, for runs of a program against files that are told whole: what a read answers is a function of the
+//! files and of the numbers of the reads that are to fail.
 ghost use Rattle.std.specs.Prelude.{◌≡◌, ◌↔◌, ◌<◌, ◌≤◌, [], length, false, IsTrue, IsSomeAnd, OnOk, OnErr, IsErrOf};
 ghost use Rattle.std.specs.Option.{option_copied};
 ghost use Rattle.prv_io.specs.FaultPlan.{fresh};
 ghost use Rattle.prv_io.specs.MemFiles.{bytes_named, known_of, read_fails, after_read};
 ghost use Rattle.prv_io.specs.Files.{MayHold};
 
-use crate::fault_plan::FaultPlan;
-use crate::{FileError, Files};
+use crate::{FaultPlan, FileError, Files};
 use std::marker::Model;
 
 /// A file in memory: its name and its bytes.
 #[derive(Debug, Drop)]
 pub struct MemFile {
+    /// The name that a read asks for, in bytes.
     pub name: Vec<u8>,
+    /// What a read gives.
     pub bytes: Vec<u8>,
 }
 
@@ -27,7 +29,9 @@ impl Model for MemFile {
 /// Files in memory, which tell all that they have. Of several files of one name the first counts.
 #[derive(Debug, Drop)]
 pub struct MemFiles {
+    // First to last. Of one name the first counts.
     files: Vec<MemFile>,
+    // The reads so far, and which of them are to fail.
     plan: FaultPlan,
 }
 
@@ -101,7 +105,8 @@ impl Files for MemFiles {
     {
         into.clear();
         let found = bytes_named(&self.files, name.as_bytes());
-        let fails = self.plan.count_call(found.is_none());
+        let fails = self.plan.is_to_fail() || found.is_none();
+        self.plan.count_call(fails);
         let Some(bytes) = found else {
             return Err(FileError::Failed);
         };

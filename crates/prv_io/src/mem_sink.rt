@@ -1,18 +1,21 @@
-//! A sink in memory.
+//! A sink in memory, for runs of a program whose output is looked at: it takes what there is room for, in order, and
+//! fails the writes that it was told to fail and those for which nothing of its room is left.
 ghost use Rattle.std.specs.Prelude.{◌≡◌, ◌↔◌, ◌≤◌, [], Some, IfOk, IsErr, IsTrue};
 ghost use Rattle.prv_io.specs.FaultPlan.{fresh};
 ghost use Rattle.prv_io.specs.MemSink.{count_of, write_fails, after_write};
 
-use crate::fault_plan::FaultPlan;
-use crate::{Failed, Sink};
+use crate::{Failed, FaultPlan, Sink};
 use std::alloc::{AllocError, Global};
 use std::marker::Model;
 
 /// A sink in memory, which tells what it has taken. It takes memory only when it is made.
 #[derive(Debug, Drop)]
 pub struct MemSink {
+    // What it has taken.
     bytes: Vec<u8>,
+    // How many bytes it can still take.
     room: u32,
+    // The writes so far, and which of them are to fail.
     plan: FaultPlan,
 }
 
@@ -67,7 +70,9 @@ impl Sink for MemSink {
         ensures never_falls { self.old.plan.faults ≤ self.new.plan.faults }
     {
         let is_full = self.room == 0 && !piece.is_empty();
-        if self.plan.count_call(is_full) {
+        let fails = self.plan.is_to_fail() || is_full;
+        self.plan.count_call(fails);
+        if fails {
             return Err(Failed);
         }
         let count = piece.len().min(self.room as usize);

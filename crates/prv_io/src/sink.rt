@@ -1,4 +1,5 @@
-//! What takes bytes, in order.
+//! What takes bytes, in order, as the program sees it: a trait, whose one call may take a part of a piece, and
+//! `write_all` above it, which goes on until all is taken or a write fails.
 ghost use Rattle.std.specs.Prelude.{◌≡◌, ℕ, ◌<◌, ◌≤◌, List, length, take, Option, None, IfOk, OnOk, OnErr};
 ghost use Rattle.std.specs.Io.KnownBytes.{append_known};
 ghost use Rattle.prv_io.specs.Faults.{Rose};

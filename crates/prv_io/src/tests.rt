@@ -1,3 +1,6 @@
+//! What no clause says of the adapters: that the bytes of real files and outputs are the right ones, in order, also
+//! where a write is short, interrupted or refused.
+
 use crate::{FileError, Files, HostFiles, HostSink, Sink, write_all};
 use std::alloc::{AllocError, Global};
 use std::test::Fail;

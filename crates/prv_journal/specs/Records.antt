@@ -1,15 +1,12 @@
 -- What a journal's bytes stand for. The file is gate, record, gate, record, .., gate.
 use Rattle.std.specs.Prelude.{ℕ, zero, suc, ◌+◌, ◌==◌, nat_lt, nat_le, ◌&&◌, Bool, if◌then◌else◌, List, [], ◌∷◌, ◌++◌, length, take, drop}
 use Rattle.std.specs.Int.{w32, from_le_bytes}
+use Rattle.prv_journal.specs.declared.reading.TheConstants.{MAX_PAYLOAD}
 
 -- the payloads of all records behind open gates, or the first open gate with no whole record: its offset, and how many bytes stand behind it
 pub data Records : Type 0 where
   Payloads : (payloads : List (List ℕ)) → Records
   Damaged : (offset found : ℕ) → Records
-
--- a payload has at most so many bytes
-abbrev pub max_payload : ℕ
-max_payload = 17000000
 
 -- the length of the payload, in the first four bytes of a record, the lowest first
 abbrev pub payload_length : List ℕ → ℕ
@@ -17,7 +14,7 @@ payload_length bytes = from_le_bytes w32 bytes
 
 -- four bytes of length, a payload of no more than the limit, and one more gate stand here
 abbrev pub is_whole : List ℕ → Bool
-is_whole bytes = nat_le 4 (length bytes) && nat_le (payload_length bytes) max_payload && nat_lt (4 + payload_length bytes) (length bytes)
+is_whole bytes = nat_le 4 (length bytes) && nat_le (payload_length bytes) MAX_PAYLOAD && nat_lt (4 + payload_length bytes) (length bytes)
 
 abbrev pub payload : List ℕ → List ℕ
 payload bytes = take (payload_length bytes) (drop 4 bytes)

@@ -1,9 +1,12 @@
-//! How bytes come onto the disk for good.
+//! How a record comes onto the disk: first the record behind the closed gate, where no reading sees it, and a sync; then
+//! the one byte that opens the gate, and a sync. So at each moment a crash leaves the record whole or not at all.
 ghost use Rattle.std.specs.Prelude.{◌≡◌, ◌+◌, ◌^◌, ◌<◌, ◌≤◌, [], ◌∷◌, ◌++◌, List, ℕ, length, IfOk, OnOk, IsErrOf};
 ghost use Rattle.std.specs.Int.{w32, to_le_bytes};
 ghost use Rattle.prv_disk.specs.Bytes.{overwritten, Torn};
 ghost use Rattle.prv_disk.specs.Crashes.{Only, AddsOnly};
-ghost use Rattle.prv_disk.specs.Faults.{Rose, UnlessFailed};
+ghost use Rattle.prv_disk.specs.Faults.{UnlessFailed};
+ghost use Rattle.prv_io.specs.Faults.{Rose};
+ghost use Rattle.prv_journal.specs.declared.reading.TheConstants.{MAX_PAYLOAD};
 ghost use Rattle.prv_journal.specs.Records.{Payloads};
 ghost use Rattle.prv_journal.specs.Ends.{IsSettled};
 ghost use Rattle.prv_journal.specs.Journals.{Has, HasOrWith};
@@ -25,6 +28,7 @@ pub fn write_lasting<D: Disk>(disk: &mut D, at: u64, piece: &[u8]) -> Result<(),
     ensures unchanged { IsErrOf result DiskError.Memory → disk.new ≡ disk.old }
     ensures never_falls { D.faults disk.old ≤ D.faults disk.new }
     ensures failed { IsErrOf result DiskError.Failed → Rose (D.faults disk.old) (D.faults disk.new) }
+    ensures kept { UnlessFailed result (D.faults disk.new ≡ D.faults disk.old) }
 {
     disk.write_at(at, piece)?;
     disk.sync()?;
@@ -33,7 +37,7 @@ pub fn write_lasting<D: Disk>(disk: &mut D, at: u64, piece: &[u8]) -> Result<(),
 
 // A record, and a closed gate behind it.
 fn record_bytes(alloc: Global, payload: &[u8]) -> Result<Vec<u8>, AllocError>
-    requires { length payload.now ≤ 17_000_000 }
+    requires { length payload.now ≤ MAX_PAYLOAD }
     ensures { IfOk result (λ bytes. bytes.items ≡ to_le_bytes w32 (length payload.now) ++ payload.now ++ 0 ∷ []) }
 {
     let mut bytes = Vec::with_capacity(alloc, payload.len() + 5)?;
@@ -50,7 +54,7 @@ pub fn append_record<D: Disk>(
     end: u64,
     payload: &[u8],
 ) -> Result<(), DiskError>
-    requires short { length payload.now ≤ 17_000_000 }
+    requires short { length payload.now ≤ MAX_PAYLOAD }
     requires room { end < 2 ^ 63 }
     requires settled { D.Tells → IsSettled (D.seen disk.old) (D.may_leave disk.old) end }
 
@@ -62,6 +66,7 @@ pub fn append_record<D: Disk>(
     ensures memory { IsErrOf result DiskError.Memory → D.Tells → (s : IsSettled (D.seen disk.old) (D.may_leave disk.old) end) → AddsOnly (D.moment disk.old) (D.moment disk.new) (D.left_since disk.old) (D.left_since disk.new) (Has (Payloads s.payloads)) }
     ensures never_falls { D.faults disk.old ≤ D.faults disk.new }
     ensures failed { IsErrOf result DiskError.Failed → Rose (D.faults disk.old) (D.faults disk.new) }
+    ensures kept { UnlessFailed result (D.faults disk.new ≡ D.faults disk.old) }
 {
     let bytes = record_bytes(alloc, payload)?;
     write_lasting(disk, end + 1, &bytes)?;

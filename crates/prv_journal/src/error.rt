@@ -1,8 +1,10 @@
-//! Why a journal was not opened, or a record not appended.
+//! Why a journal was not opened, or a record not appended. A fault of the disk is told apart from want of memory, since
+//! after the one nobody knows what the disk holds, and after the other it holds what it held.
 ghost use Rattle.std.specs.Prelude.{◌≡◌};
 ghost use Rattle.prv_journal.specs.declared.error.LoadError.TheVariants.{Device, Memory};
 
-use prv_disk::{DiskError, Failed};
+use prv_disk::DiskError;
+use prv_io::Failed;
 use std::alloc::{AllocError, AllocFailed};
 use thiserror::Error;
 
@@ -12,9 +14,14 @@ pub enum LoadError {
     /// A call of the disk failed, and the disk counted it.
     #[error("the disk has failed")]
     Device,
-    /// The open gate at `offset` has no whole record behind it, but `found` bytes.
+    /// The first open gate that has no whole record behind it.
     #[error("damaged at {offset} found {found}")]
-    Damaged { offset: u64, found: u64 },
+    Damaged {
+        /// Where the gate stands, from 0.
+        offset: u64,
+        /// How many bytes stand behind it.
+        found: u64,
+    },
     /// Out of memory.
     #[error("out of memory")]
     Memory,

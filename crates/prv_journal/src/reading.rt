@@ -1,5 +1,6 @@
-//! The records in the bytes of a file.
-ghost use Rattle.std.specs.Prelude.{◌≡◌, ◌*◌, ◌<◌, ◌≤◌, false, true, length, map, IfOk, IfErr, IsErrOf, IfSome, IfNone};
+//! The records in the bytes of a file: from the first byte on a gate, and where it is open a record and the next gate. An
+//! open gate with no whole record behind it is damage, which no crash leaves.
+ghost use Rattle.std.specs.Prelude.{◌≡◌, ◌*◌, ◌<◌, ◌≤◌, false, true, length, map, IfOk, IfErr, IsErrOf, IfSome, IfNone, All};
 ghost use Rattle.prv_journal.specs.Records.{records, is_whole, payload};
 ghost use Rattle.prv_journal.specs.Ends.{EndsAt};
 ghost use Rattle.prv_journal.specs.Journals.{TellsDamage};
@@ -19,10 +20,12 @@ pub const MAX_PAYLOAD: usize = 17_000_000;
 /// What stands before a payload: its gate, and its length in four bytes.
 pub const HEAD: usize = 5;
 
-/// The payloads behind the open gates of a file, and where the first closed gate stands.
+/// What stands in a file up to its first closed gate.
 #[derive(Debug, Drop)]
 pub struct Found {
+    /// The payloads, the first record's first.
     pub payloads: Vec<Vec<u8>>,
+    /// Where the first closed gate stands, from 0.
     pub end: usize,
 }
 
@@ -44,6 +47,7 @@ pub fn read_records(alloc: Global, bytes: &[u8]) -> Result<Found, LoadError>
     requires { 1 < length bytes.now }
     ensures ends { IfOk result (λ found. EndsAt bytes.now found.end (map (λ payload. payload.items) found.payloads.items)) }
     ensures size { IfOk result (λ found. found.end ≤ 17_000_005 * length found.payloads.items) }
+    ensures short { IfOk result (λ found. All (λ payload. length payload.items ≤ MAX_PAYLOAD) found.payloads.items) }
     ensures damaged { IfErr result (λ error. TellsDamage error (records bytes.now)) }
     ensures no_fault { IsErrOf result LoadError.Device → ⊥ }
 {

@@ -1,5 +1,8 @@
+//! What no clause says: files as tables of bytes, so that the definition of records is seen to be the format; a crash after
+//! each call of an append; and a real file, which keeps its records from one program to the next.
+
 use crate::{AppendError, Journal};
-use prv_disk::{FileDisk, MemDisk};
+use prv_disk::{FileDisk, MemDisk, OpenMode};
 use std::alloc::Global;
 use std::fs;
 use std::test::Fail;
@@ -97,7 +100,7 @@ fn a_real_file_keeps_its_records(rt: HostRuntime) -> Result<(), Fail> {
     const NAME: &str = "prv_journal_test_file";
     let alloc = rt.alloc();
     for wanted in [0, 1, 2] {
-        let disk = FileDisk::open(&rt, NAME);
+        let disk = FileDisk::open(&rt, NAME, OpenMode::Create);
         let (mut journal, payloads) = Journal::load(alloc, disk).map_err(|refused| refused.0)?;
         assert_eq!(rt; payloads.len(), wanted);
         assert_eq!(rt; journal.append(b"record"), Ok(wanted as u32));

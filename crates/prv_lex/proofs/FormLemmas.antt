@@ -12,6 +12,7 @@ use Rattle.prv_lex.specs.Keywords.{keyword, keyword_of}
 use Rattle.prv_lex.specs.Numbers.{number_of}
 use Rattle.prv_lex.specs.Symbols.{symbol, symbol_at}
 use Rattle.prv_lex.specs.Fronts.{front_of, named, word_front, numbered, number_front, closed}
+use Rattle.prv_lex.proofs.EachSymbol.{symbol-nonempty, symbol-no_letter, symbol-no_digit, symbol-no_blank}
 use Rattle.prv_lex.proofs.Scanning.{Reads, ended, gap, token, Refuses, stuck, past_gap, past_token}
 use Rattle.prv_lex.specs.Lexemes.{IsWord, IsDigits, IsLexeme, IsLongest, Spells}
 use Rattle.prv_lex.specs.Spacings.{AtLineEnd, IsSpacing, blank, line, block, AreSpacings, none, more, BeginsNoComment}
@@ -25,9 +26,9 @@ use Rattle.prv_lex.specs.declared.token.Sym.{Sym}
 use Rattle.prv_lex.specs.declared.token.Tok.{Tok}
 use Rattle.prv_lex.specs.declared.token.Tok.TheVariants as tok
 use Rattle.prv_lex.specs.declared.token.Token as t
-use Rattle.prv_lex.proofs.FrontLemmas.{begins, symbol_at-begins, symbol-nonempty}
+use Rattle.prv_lex.proofs.FrontLemmas.{begins, symbol_at-begins}
 use Rattle.prv_lex.proofs.SpellingLemmas.{clash, begins-from, first-append, letter-no_digit, letter-some, all-first}
-use Rattle.prv_lex.proofs.TableLemmas.{keyword-found, keyword-letter, keyword-short, keyword-word, keyword_of-spelled, symbol-no_letter, symbol-no_digit, symbol-no_blank, symbol-injective, symbol_at-none, symbol_at-longest}
+use Rattle.prv_lex.proofs.TableLemmas.{keyword-found, keyword-letter, keyword-short, keyword-word, keyword_of-spelled, symbol-injective, symbol_at-none, symbol_at-longest}
 
 -- a run of a class that the rest doesn't go on with is the longest
 run-append : (p : ℕ → Bool) (run rest : List ℕ) → list_all p run ≡ true → prefix_len p rest ≡ 0 → prefix_len p (run ++ rest) ≡ length run

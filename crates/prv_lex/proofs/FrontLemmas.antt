@@ -14,9 +14,9 @@ use Rattle.prv_lex.specs.Numbers.{number_of}
 use Rattle.prv_lex.specs.Symbols.{symbol, symbol_at, pairs, singles}
 use Rattle.prv_lex.specs.Fronts.{front_of, word_front, numbered, closed, symbol_front, mark_front}
 use Rattle.prv_lex.specs.declared.token.Sym.{Sym}
-use Rattle.prv_lex.specs.declared.token.Sym.TheVariants.{OpenParen, CloseParen, OpenBrace, CloseBrace, Semicolon, Comma, Assign, At, Question, Colon, Plus, Minus, Star, Slash, Percent, ShiftLeft, ShiftRight, Less, LessEqual, Greater, GreaterEqual, EqualEqual, NotEqual, Ampersand, Caret, Bar, AndAnd, BarBar, Bang, Tilde}
 use Rattle.prv_lex.specs.declared.front.Front.{Front}
 use Rattle.prv_lex.specs.declared.front.Front.TheVariants.{Gap, Token, Refused}
+use Rattle.prv_lex.proofs.EachSymbol.{symbol-nonempty}
 
 -- a gap or a token has at least one byte, and at most n
 abbrev pub Moves : ℕ → Front → Type 0
@@ -39,38 +39,6 @@ begins text p h = (starts_is Decides-eqb text p (starts_with nat_eq text p) refl
 
 pub begins-length : (text p : List ℕ) → starts_with nat_eq text p ≡ true → length p ≤ length text
 begins-length text p h = omega (arith, ap length (begins text p h), length-append p (drop (length p) text))
-
-pub symbol-nonempty : (s : Sym) → 0 < length (symbol s)
-symbol-nonempty OpenParen = omega arith
-symbol-nonempty CloseParen = omega arith
-symbol-nonempty OpenBrace = omega arith
-symbol-nonempty CloseBrace = omega arith
-symbol-nonempty Semicolon = omega arith
-symbol-nonempty Comma = omega arith
-symbol-nonempty Assign = omega arith
-symbol-nonempty At = omega arith
-symbol-nonempty Question = omega arith
-symbol-nonempty Colon = omega arith
-symbol-nonempty Plus = omega arith
-symbol-nonempty Minus = omega arith
-symbol-nonempty Star = omega arith
-symbol-nonempty Slash = omega arith
-symbol-nonempty Percent = omega arith
-symbol-nonempty ShiftLeft = omega arith
-symbol-nonempty ShiftRight = omega arith
-symbol-nonempty Less = omega arith
-symbol-nonempty LessEqual = omega arith
-symbol-nonempty Greater = omega arith
-symbol-nonempty GreaterEqual = omega arith
-symbol-nonempty EqualEqual = omega arith
-symbol-nonempty NotEqual = omega arith
-symbol-nonempty Ampersand = omega arith
-symbol-nonempty Caret = omega arith
-symbol-nonempty Bar = omega arith
-symbol-nonempty AndAnd = omega arith
-symbol-nonempty BarBar = omega arith
-symbol-nonempty Bang = omega arith
-symbol-nonempty Tilde = omega arith
 
 -- the longest symbol that a text begins with is a front of the text
 pub symbol_at-begins : (text : List ℕ) (s : Sym) → symbol_at text ≡ Some s → starts_with nat_eq text (symbol s) ≡ true

@@ -2,6 +2,7 @@ pub mod NumberLemmas
 pub mod CommentLemmas
 pub mod ClassLemmas
 pub mod RunLemmas
+pub mod EachSymbol
 pub mod FrontLemmas
 pub mod Scanning
 pub mod ScanLemmas

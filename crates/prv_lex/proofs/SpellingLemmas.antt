@@ -21,9 +21,10 @@ use Rattle.prv_lex.specs.declared.token.Key.{Key}
 use Rattle.prv_lex.specs.declared.token.Sym.{Sym}
 use Rattle.prv_lex.specs.declared.token.Tok.{Tok}
 use Rattle.prv_lex.specs.declared.token.Tok.TheVariants as tok
-use Rattle.prv_lex.proofs.FrontLemmas.{begins, run-some, symbol_at-begins, symbol-nonempty}
+use Rattle.prv_lex.proofs.EachSymbol.{symbol-nonempty, symbol-no_letter, symbol-no_digit}
+use Rattle.prv_lex.proofs.FrontLemmas.{begins, run-some, symbol_at-begins}
 use Rattle.prv_lex.proofs.RunLemmas.{all_in_run, length-run}
-use Rattle.prv_lex.proofs.TableLemmas.{symbol-no_letter, symbol-no_digit, keyword_of-spelled, keyword_of-none, symbol_at-longest}
+use Rattle.prv_lex.proofs.TableLemmas.{keyword_of-spelled, keyword_of-none, symbol_at-longest}
 
 -- a byte that is no letter where one is wanted
 pub clash : (b : Bool) → b ≡ true → b ≡ false → ⊥

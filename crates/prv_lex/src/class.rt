@@ -1,3 +1,4 @@
+//! Runs of bytes of one class, each found by a look into a table: most of a text is names, numbers and blanks.
 ghost use Rattle.std.specs.Prelude.{◌≡◌};
 ghost use Rattle.std.specs.List.{prefix_len};
 ghost use Rattle.prv_lex.specs.Bytes.{is_blank as is_a_blank, is_letter as is_a_letter, is_word_byte as is_a_word_byte, is_in};

@@ -1,3 +1,4 @@
+//! The end of a comment that runs over lines.
 ghost use Rattle.std.specs.Prelude.{◌≡◌, ◌≤◌, length, IfSome};
 ghost use Rattle.prv_lex.specs.Comments.{closing as closing_of};
 

@@ -1,3 +1,4 @@
+//! Why a file has no tokens, and where.
 use std::alloc::{AllocError, AllocFailed};
 use thiserror::Error;
 

@@ -1,3 +1,5 @@
+//! What a text begins with: a gap, a token, or what can't be read. The loop over a file takes one front after
+//! another.
 ghost use Rattle.std.specs.Prelude.{◌≡◌, ◌<◌, false, length, slice_index, IfOk};
 ghost use Rattle.prv_lex.specs.Fronts.{front_of, word_front, number_front, mark_front, symbol_front};
 ghost use Rattle.prv_lex.specs.Symbols.{symbol_at as longest_symbol};

@@ -1,3 +1,4 @@
+//! Numerals. A numeral is at most the greatest word, and has no leading zero, which in C would make it octal.
 ghost use Rattle.std.specs.Prelude.{◌≡◌, ◌<◌, IsTrue, length};
 ghost use Rattle.std.specs.List.{AllPass};
 ghost use Rattle.prv_lex.specs.Bytes.{is_digit};

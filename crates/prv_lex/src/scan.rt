@@ -1,3 +1,4 @@
+//! From the bytes of a file to its tokens, front by front, up to the first thing that can't be read.
 ghost use Rattle.std.specs.Prelude.{◌≡◌, ℕ, List, ◌<◌, ◌≤◌, IfOk, IfErr, IsErrOf, MatchResult, ◌⊎◌};
 ghost use Rattle.prv_model.specs.declared.limits.TheConstants.{MAX_FILE};
 ghost use Rattle.prv_lex.specs.declared.error.LexWhy.{LexWhy};

@@ -1,3 +1,4 @@
+//! Symbols: the longest that a text begins with, and how each is spelled.
 ghost use Rattle.std.specs.Prelude.{◌≡◌, ◌<◌, length, [], ◌∷◌};
 ghost use Rattle.prv_lex.specs.Symbols.{symbol as spelling, symbol_at};
 

@@ -1,8 +1,11 @@
+//! Tokens: names, numbers, reserved words and symbols, each with the place of its first byte, by which every
+//! later refusal names its cause.
 use prv_model::Name;
 
 /// A token, and where it begins.
 #[derive(Debug, Drop)]
 pub struct Token {
+    /// What it is.
     pub tok: Tok,
     /// The place of its first byte in the file, from 0.
     pub place: u32,

@@ -1,3 +1,4 @@
+//! The reserved words. A name that is one of them is no name.
 ghost use Rattle.std.specs.Prelude.{◌≡◌};
 ghost use Rattle.prv_lex.specs.Keywords.{keyword_of};
 

@@ -10,6 +10,7 @@ use Rattle.prv_model.specs.Words.{IsWord, is_word}
 use Rattle.prv_model.proofs.WordLaws.{word-tested, tested-word}
 use Rattle.prv_line.specs.Texts.{IsName, IsNumber, IsSigned}
 use Rattle.prv_line.specs.Options.{option_word, head_word, IsValue}
+use Rattle.prv_line.specs.declared.limits.TheConstants.{TURNS, LINES, SETTLEMENTS, WORKERS}
 use Rattle.prv_line.specs.declared.option.OptionName.{OptionName}
 use Rattle.prv_line.specs.declared.option.OptionName.TheVariants.{Turns, Lines, Settlements, Workers, Journal}
 use Rattle.prv_line.proofs.Heads.{value_in, value_in-head}
@@ -76,10 +77,10 @@ decided-signed word = by (both _ _ (decided-differ (slice_index word 0) 43) (bot
     by (inr never) = inr (λ h. never (h.unsigned, (h.digits, (h.short, h.fits))))
 
 pub decided-value : (name : OptionName) (text : List ℕ) → Decided (IsValue name text)
-decided-value Turns text = decided-number 1 256 text
-decided-value Lines text = decided-number 1 50000 text
-decided-value Settlements text = decided-number 1 100000 text
-decided-value Workers text = decided-number 0 8 text
+decided-value Turns text = decided-number TURNS.least TURNS.most text
+decided-value Lines text = decided-number LINES.least LINES.most text
+decided-value Settlements text = decided-number SETTLEMENTS.least SETTLEMENTS.most text
+decided-value Workers text = decided-number WORKERS.least WORKERS.most text
 decided-value Journal text = decided-name text
 
 pub decided-equal : (a b : List ℕ) → Decided (a ≡ b)

@@ -1,5 +1,6 @@
 -- The commands, and what the options of one settle.
 use Rattle.std.specs.Prelude.{ℕ, List, ℤ, Option, None}
+use Rattle.prv_line.specs.declared.limits.TheConstants.{TURNS, LINES, SETTLEMENTS, WORKERS}
 
 -- how explore, live and resume go about it, and the name of the journal, where one is kept
 pub record Settings : Type 0 where
@@ -11,7 +12,7 @@ pub record Settings : Type 0 where
 
 -- what holds where no option is given
 abbrev pub defaults : Settings
-defaults = record { turns = 32; lines = 2000; settlements = 1000; workers = 2; journal = None }
+defaults = record { turns = TURNS.default; lines = LINES.default; settlements = SETTLEMENTS.default; workers = WORKERS.default; journal = None }
 
 pub data Command : Type 0 where
   Run : (file : List ℕ) (input : List ℤ) → Command

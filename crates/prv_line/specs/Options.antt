@@ -3,6 +3,7 @@ use Rattle.std.specs.Prelude.{◌≡◌, ℕ, Bool, true, false, IsTrue, ⊤, Li
 use Rattle.std.specs.Str.Parse.{digits_value}
 use Rattle.prv_line.specs.Texts.{IsName, IsNumber}
 use Rattle.prv_line.specs.Commands.{Settings}
+use Rattle.prv_line.specs.declared.limits.TheConstants.{TURNS, LINES, SETTLEMENTS, WORKERS}
 use Rattle.prv_line.specs.declared.option.OptionName.{OptionName}
 use Rattle.prv_line.specs.declared.option.OptionName.TheVariants.{Turns, Lines, Settlements, Workers, Journal}
 use Rattle.prv_line.specs.declared.option.Allowed.{Allowed}
@@ -17,10 +18,10 @@ option_word Journal = codes "--journal"
 
 -- a text is a value of the option
 abbrev pub IsValue : OptionName → List ℕ → Type 0
-IsValue Turns text = IsNumber 1 256 text
-IsValue Lines text = IsNumber 1 50000 text
-IsValue Settlements text = IsNumber 1 100000 text
-IsValue Workers text = IsNumber 0 8 text
+IsValue Turns text = IsNumber TURNS.least TURNS.most text
+IsValue Lines text = IsNumber LINES.least LINES.most text
+IsValue Settlements text = IsNumber SETTLEMENTS.least SETTLEMENTS.most text
+IsValue Workers text = IsNumber WORKERS.least WORKERS.most text
 IsValue Journal text = IsName text
 
 -- the settings with the option at this value

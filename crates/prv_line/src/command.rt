@@ -1,16 +1,18 @@
+//! The commands of the program with their arguments, as values: names borrow from the command line, numbers are
+//! read and in their ranges.
 use prv_model::Input;
 
 /// How much work is to be done.
 #[derive(Clone, Copy, Debug, PartialEq, Eq)]
 pub struct Plan {
-    /// The budget of a log in lines: 1 to 50,000.
+    /// The budget of a log in lines, in the range `LINES`.
     pub lines: u32,
-    /// The settlements to be made at most: 1 to 100,000.
+    /// The settlements to be made at most, in the range `SETTLEMENTS`.
     pub settlements: u32,
 }
 
 /// A command of the program. Names of files and journals aren't empty and don't begin with `-`; an input
-/// has 1 to 8 words; turns are 1 to 256, and workers 0 to 8.
+/// has 1 to 8 words; turns are in the range `TURNS`, and workers in `WORKERS`.
 #[derive(Debug, Drop)]
 pub enum Command<'a> {
     /// `run FILE N..`: runs a program.

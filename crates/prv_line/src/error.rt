@@ -1,3 +1,4 @@
+//! The one refusal of a command line: the number of its first bad word.
 use std::alloc::AllocError;
 use thiserror::Error;
 

@@ -9,7 +9,9 @@ use crate::option::OptionName;
 /// The option that a word names, and the value that the word holds behind a `=`.
 #[derive(Clone, Copy, Debug)]
 pub struct Head<'a> {
+    /// The option that is named.
     pub name: OptionName,
+    /// Its value, where it stands in the same word.
     pub value: Option<&'a str>,
 }
 

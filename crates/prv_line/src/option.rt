@@ -4,6 +4,7 @@ ghost use Rattle.prv_line.specs.Options.{IsValue, with_value, is_allowed, withou
 ghost use Rattle.prv_line.specs.Commands.{defaults};
 ghost use Rattle.prv_line.specs.Views.{settings_of};
 
+use crate::limits::{LINES, SETTLEMENTS, TURNS, WORKERS};
 use crate::text::{is_name, read_number};
 
 #[derive(Clone, Copy, Debug)]
@@ -18,10 +19,15 @@ pub enum OptionName {
 /// The options that may be given, each by its name.
 #[derive(Clone, Copy, Debug)]
 pub struct Allowed {
+    /// Whether `--turns` may be given.
     pub turns: bool,
+    /// Whether `--lines` may be given.
     pub lines: bool,
+    /// Whether `--settlements` may be given.
     pub settlements: bool,
+    /// Whether `--workers` may be given.
     pub workers: bool,
+    /// Whether `--journal` may be given.
     pub journal: bool,
 }
 
@@ -95,10 +101,15 @@ impl Allowed {
 /// What the options settle.
 #[derive(Clone, Copy, Debug)]
 pub struct Settings<'a> {
+    /// The turns of a run, in the range `TURNS`.
     pub turns: u32,
+    /// The budget of a search in lines, in `LINES`.
     pub lines: u32,
+    /// The most settlements, in `SETTLEMENTS`.
     pub settlements: u32,
+    /// The workers, in `WORKERS`.
     pub workers: u32,
+    /// The journal's name, where one is given.
     pub journal: Option<&'a str>,
 }
 
@@ -108,10 +119,10 @@ impl<'a> Settings<'a> {
         ensures { settings_of result ≡ defaults }
     {
         Settings {
-            turns: 32,
-            lines: 2_000,
-            settlements: 1_000,
-            workers: 2,
+            turns: TURNS.default,
+            lines: LINES.default,
+            settlements: SETTLEMENTS.default,
+            workers: WORKERS.default,
             journal: None,
         }
     }
@@ -123,22 +134,22 @@ impl<'a> Settings<'a> {
     {
         match name {
             OptionName::Turns => {
-                let turns = read_number(text, 1, 256)?;
+                let turns = read_number(text, TURNS.least, TURNS.most)?;
                 Some(Settings { turns, ..*self })
             }
             OptionName::Lines => {
-                let lines = read_number(text, 1, 50_000)?;
+                let lines = read_number(text, LINES.least, LINES.most)?;
                 Some(Settings { lines, ..*self })
             }
             OptionName::Settlements => {
-                let settlements = read_number(text, 1, 100_000)?;
+                let settlements = read_number(text, SETTLEMENTS.least, SETTLEMENTS.most)?;
                 Some(Settings {
                     settlements,
                     ..*self
                 })
             }
             OptionName::Workers => {
-                let workers = read_number(text, 0, 8)?;
+                let workers = read_number(text, WORKERS.least, WORKERS.most)?;
                 Some(Settings { workers, ..*self })
             }
             OptionName::Journal => {

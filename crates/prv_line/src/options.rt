@@ -40,10 +40,13 @@ pub fn read_options<'a>(
 /// An option with its value, before the value is read.
 #[derive(Clone, Copy, Debug)]
 struct Taken<'a, 'w> {
+    /// The option.
     name: OptionName,
+    /// The text of its value.
     value: &'a str,
     /// Which word of the command line holds the value.
     word: u32,
+    /// The words behind it.
     behind: &'w [&'a str],
 }
 

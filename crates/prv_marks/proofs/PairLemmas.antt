@@ -3,7 +3,7 @@ use Rattle.std.proofs.Common.{◌≡◌, ℕ, List, Option, Some, None, sym, ◌
 use Rattle.std.proofs.lemmas.Option.{same_Some, none-some}
 use Rattle.prv_names.specs.declared.version.MarkAt.{MarkAt}
 use Rattle.prv_names.specs.declared.version.Version.{Version}
-use Rattle.prv_parse.specs.declared.skeleton.Skel.{Skel}
+use Rattle.prv_rule.specs.declared.skeleton.Skel.{Skel}
 use Rattle.prv_marks.specs.declared.error.PairError.{PairError}
 use Rattle.prv_marks.specs.declared.error.PairError.TheVariants.{Params, MarkTwice, MarkInside, Unmarked}
 use Rattle.prv_marks.specs.declared.error.Side.{Side}

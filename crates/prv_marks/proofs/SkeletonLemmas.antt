@@ -1,8 +1,8 @@
 -- Skeletons: where they differ first, and that they are equal where they don't.
 use Rattle.std.proofs.Common.{◌≡◌, ◌≢◌, ℕ, suc, ◌<◌, min, List, [], ◌∷◌, length, sym, ◌∙◌, ap, arith, refl, inl, inr, subst, slice_get}
 use Rattle.std.proofs.lemmas.Option.{slice_get-map, same_Some, none-some}
-use Rattle.prv_parse.specs.declared.skeleton.Skel.{Skel}
-use Rattle.prv_parse.specs.declared.skeleton.SkelItem.{SkelItem}
+use Rattle.prv_rule.specs.declared.skeleton.Skel.{Skel}
+use Rattle.prv_rule.specs.declared.skeleton.SkelItem.{SkelItem}
 use Rattle.prv_marks.proofs.Orders.{order}
 use Rattle.prv_marks.specs.Skeletons.{items_of, item_at, DifferFirstAt}
 

@@ -1,8 +1,8 @@
 -- Skeletons compared: items are, places aren't.
 use Rattle.std.specs.Prelude.{◌≡◌, ◌≢◌, ℕ, ◌-◌, ◌<◌, min, List, length, map, Option, Some, None, slice_get}
 use Rattle.std.specs.Option.{option_map}
-use Rattle.prv_parse.specs.declared.skeleton.Skel.{Skel}
-use Rattle.prv_parse.specs.declared.skeleton.SkelItem.{SkelItem}
+use Rattle.prv_rule.specs.declared.skeleton.Skel.{Skel}
+use Rattle.prv_rule.specs.declared.skeleton.SkelItem.{SkelItem}
 
 -- what stands in a skeleton, without the places
 abbrev pub items_of : List Skel → List SkelItem

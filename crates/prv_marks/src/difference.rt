@@ -1,3 +1,5 @@
+//! Where two skeletons first differ. Outside of the marked places both versions have to be the same text, token
+//! by token.
 ghost use Rattle.std.specs.Prelude.{◌≡◌, ◌↔◌, IsTrue, IfSome, IfNone};
 ghost use Rattle.prv_marks.specs.Skeletons.{items_of, place_at as place_at_of, DifferFirstAt};
 

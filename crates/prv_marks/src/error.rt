@@ -1,3 +1,4 @@
+//! Why two versions make no pair, with the marks or the places that show it.
 use thiserror::Error;
 
 /// One of the two versions.

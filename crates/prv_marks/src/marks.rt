@@ -1,3 +1,4 @@
+//! Tests of one version's marks: a mark that is used twice, and a mark inside another.
 ghost use Rattle.std.specs.Prelude.{◌≡◌, IfSome, IfNone};
 ghost use Rattle.prv_marks.specs.Marks.{AreUsedOnce, IsUsedTwice, first_inner as first_inner_of};
 

@@ -1,4 +1,7 @@
+//! From two versions to a pair: the tests in the order in which they are refused. Parameters come first, then
+//! marks used twice, marks inside marks, and last the skeletons.
 ghost use Rattle.std.specs.Prelude.{◌≡◌, ◌≤◌, ◌↔◌, IsOk, IfOk, IfSome, IfNone};
+ghost use Rattle.prv_model.specs.declared.limits.TheConstants.{MAX_TURNS};
 ghost use Rattle.prv_marks.specs.Pairs.{MakePair, IsRefused, IsTwice, UseMarksOnce, IsInside, HaveNoInner};
 
 use crate::difference::{first_difference, place_at};
@@ -62,14 +65,14 @@ fn refusal(before: &Version, after: &Version) -> Option<PairError>
     }
 }
 
-/// The pair of two versions of one program, with 1 to 256 turns for each run.
+/// The pair of two versions of one program, with 1 to `MAX_TURNS` turns for each run.
 ///
 /// It is refused where they make none, for the first of these reasons: other numbers of parameters;
 /// a mark used twice; a mark inside a mark; a difference outside of the marks. Of each the version
 /// before is tested first.
 pub fn pair(before: Version, after: Version, turns: u32) -> Result<Pair, PairError>
     requires some_turns { 1 ≤ turns }
-    requires few_turns { turns ≤ 256 }
+    requires few_turns { turns ≤ MAX_TURNS }
     ensures paired { IsOk result ↔ MakePair before after }
     ensures refused { (why : PairError) → (result ≡ Err why) ↔ IsRefused before after why }
 

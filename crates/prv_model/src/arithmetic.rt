@@ -1,3 +1,5 @@
+//! The operators of the language on two words. Everything that runs a program or evaluates a constant calls
+//! `apply`, so the edges (wrapping, division by 0, shift amounts) are decided in this one place.
 ghost use Rattle.std.specs.Prelude.{◌≡◌};
 ghost use Rattle.prv_model.specs.Words.{binary, amount as amount_of, flag as flag_of};
 

@@ -1,3 +1,5 @@
+//! An entry of a board: a region, as terms, with what is claimed of it. A kind carries its own evidence where
+//! it has one: the sample of a difference, or the reason why nothing was decided.
 ghost use Rattle.std.specs.Prelude.{◌≡◌, IfOk};
 
 use crate::input::Input;
@@ -58,8 +60,12 @@ impl Kind {
 /// A region with what is claimed of it: the inputs on which each of the terms is nonzero.
 #[derive(Debug, Drop)]
 pub struct Entry {
+    /// Its number. An entry that is cut up is gone, and its parts have numbers of their own.
     pub number: u32,
+    /// The terms that are nonzero on the inputs of its region.
     pub terms: Items<Term>,
+    /// What is claimed of each of them.
     pub kind: Kind,
+    /// The marks of the changed statements that contribute to the claim, in rising order.
     pub marks: Items<u8>,
 }

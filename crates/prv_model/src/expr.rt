@@ -1,3 +1,5 @@
+//! Expressions as trees over numbered variables. They are what is left of a text once names are resolved, so no
+//! expression of a program can name a variable that isn't there.
 use crate::op::{BinOp, UnOp};
 use sqlite_items::Boxed;
 

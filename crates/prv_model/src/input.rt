@@ -1,3 +1,5 @@
+//! Inputs: one word for each parameter. The type keeps that its numbers are words, so a sample that is shown is
+//! always an input that a run can begin with.
 ghost use Rattle.std.specs.Prelude.{◌≡◌, ◌↔◌, IsTrue, [], ◌∷◌, ◌++◌, All, IfOk, OnOk, OnErr};
 ghost use Rattle.prv_model.specs.Words.{IsWord};
 
@@ -7,6 +9,7 @@ use std::marker::Model;
 /// An input: one word for each parameter, the first parameter's first.
 #[derive(Debug, Drop)]
 pub struct Input {
+    /// The parameters' words, in the order of the parameters.
     pub words: Vec<i32>,
 }
 

@@ -1,3 +1,5 @@
+//! Names of variables. They are kept for reports, which write parameters by name; a run needs only their
+//! numbers.
 ghost use Rattle.std.specs.Prelude.{◌≡◌, ◌≤◌, ◌↔◌, IsTrue, IfOk, length};
 
 use smallvec::SmallVec;

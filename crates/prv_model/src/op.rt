@@ -1,3 +1,7 @@
+//! Operators: of expressions as they are written, and the fewer ones of terms. `a > b` is written and means the
+//! term `b < a`; `&&` and `||` choose what is evaluated, which a term, having a value on every input, need not
+//! do.
+
 /// An operator on one word.
 #[derive(Clone, Copy, Debug, PartialEq, Eq)]
 pub enum UnOp {

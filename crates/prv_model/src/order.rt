@@ -1,3 +1,5 @@
+//! The total order of terms. Folding puts the operands of a commutative operator into this order, so that `a *
+//! b` and `b * a` are one term.
 ghost use Rattle.std.specs.Prelude.{◌≡◌, ◌↔◌, IsTrue};
 ghost use Rattle.prv_model.specs.TermOrder.{term_cmp, rank, op_rank};
 ghost use Rattle.prv_model.specs.declared.term.Term.{out-Term};

@@ -1,3 +1,5 @@
+//! What a run shows: the words that it put out and how it ended. Two versions agree on an input exactly where
+//! these are equal as wholes, so this type is all that a comparison can see of a run.
 ghost use Rattle.std.specs.Prelude.{◌≡◌, ◌↔◌, IsTrue};
 
 use crate::verdict::same_outcome;
@@ -21,7 +23,9 @@ pub enum Ending {
 /// Where it returned, the returned word is the last of `outs`.
 #[derive(Debug, Drop)]
 pub struct Outcome {
+    /// The words put out, in order, with the returned one last.
     pub outs: Items<i32>,
+    /// How the run ended.
     pub how: Ending,
 }
 

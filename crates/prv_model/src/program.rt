@@ -1,3 +1,5 @@
+//! Programs and pairs of versions. Both types keep their limits and that each variable is one of their own, so
+//! whoever is handed one runs it without a test.
 ghost use Rattle.std.specs.Prelude.{◌≡◌, ◌↔◌, IsTrue, IsSome, IfSome};
 ghost use Rattle.std.proofs.Props.{props};
 ghost use Rattle.prv_model.specs.Programs.{IsProgram, IsPair};
@@ -14,8 +16,11 @@ use sqlite_items::Items;
 /// variable in it is one of its own.
 #[derive(Debug, Drop)]
 pub struct Program {
+    /// How many of the variables are parameters, which come first: 1 to 8.
     pub params: u8,
+    /// The variables' names, by their numbers.
     pub names: Items<Name>,
+    /// The statements of `main`.
     pub body: Items<Stmt>,
     pub ghost kept: { IsProgram params names body } by { Prim.hlevel props },
 }
@@ -44,8 +49,11 @@ impl Program {
 /// Both have the same number of parameters, and the bound is 1 to 256.
 #[derive(Debug, Drop)]
 pub struct Pair {
+    /// The version as it was.
     pub before: Program,
+    /// The version as it is.
     pub after: Program,
+    /// The most turns that the loops of one run take together: 1 to 256.
     pub turns: u32,
     pub ghost kept: { IsPair before.params after.params turns } by { Prim.hlevel props },
 }

@@ -1,3 +1,5 @@
+//! Equality of programs, by recursion over their trees. A board asks it before it takes a settlement, which has
+//! to be of its own pair.
 ghost use Rattle.std.specs.Prelude.{◌≡◌, ◌↔◌, IsTrue};
 
 use crate::expr::Expr;

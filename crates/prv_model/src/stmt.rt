@@ -1,3 +1,5 @@
+//! Statements as trees. A declaration is the assignment of its value, and a mark stands round the statement
+//! that it marks.
 use crate::expr::Expr;
 use sqlite_items::{Boxed, Items};
 

@@ -1,3 +1,5 @@
+//! Terms over the parameters, and their values. A term is total (a division by 0 is 0), so a condition made of
+//! terms has a truth value on every input; whether a run would have faulted there is said by a term of its own.
 ghost use Rattle.std.specs.Prelude.{◌≡◌};
 ghost use Rattle.prv_model.specs.Terms.{term_value, holds as holds_of, bin_op as bin_op_of, total as total_of};
 

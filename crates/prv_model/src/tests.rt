@@ -1,3 +1,5 @@
+//! Operators at the edges of words, and lists of entries that are and are not legal: that the definitions say
+//! what was meant.
 use crate::arithmetic::apply;
 use crate::boards::places;
 use crate::entry::{Entry, Kind};

@@ -1,3 +1,5 @@
+//! How two outcomes on one input compare. Exactly one of the three verdicts holds, which is what makes claims
+//! about regions exclude each other.
 ghost use Rattle.std.specs.Prelude.{◌≡◌};
 ghost use Rattle.prv_model.specs.Comparison.{compare as compare_of, is_long as is_long_of, outcome_eq};
 

@@ -3,7 +3,7 @@ use Rattle.std.proofs.Common.{◌≡◌, ℕ, ◌≤◌, zero, suc, Bool, true, 
 use Rattle.std.proofs.lemmas.List.{take-append-le, length-append, length-take-le}
 use Rattle.std.proofs.lemmas.List.Sums.{fold-append}
 use Rattle.prv_names.specs.Scopes.{Standing, has, add, leave}
-use Rattle.prv_names.specs.Walks.{around_of, IsNested}
+use Rattle.prv_names.specs.ScopeStacks.{around_of, IsNested}
 
 pub nested-bound : (n : ℕ) (starts : List ℕ) (m : ℕ) → IsNested n starts m → n ≤ m
 nested-bound n [] m h = h

@@ -1,4 +1,4 @@
 pub mod Sayings
 pub mod Scopes
-pub mod Walks
+pub mod ScopeStacks
 pub mod Versions

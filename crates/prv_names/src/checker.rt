@@ -1,3 +1,5 @@
+//! From a tree of names to a version. The text is gone over once for its names; only where all are right are
+//! limits tested and variables numbered, so the first fault in the text is the one that is told.
 ghost use Rattle.std.specs.Prelude.{◌≡◌, ◌⊎◌, ◌≤◌, ◌<◌, ◌^◌, length, fold, None, Some, IfOk, IfErr};
 ghost use Rattle.prv_names.specs.Scopes.{start, after, first_fault};
 ghost use Rattle.prv_names.specs.Versions.{refusal, too_many, variables, above as above_of, IsVersionOf};

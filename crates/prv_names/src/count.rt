@@ -1,3 +1,4 @@
+//! How many statements a tree has. The limit is tested on the tree, before statements are numbered.
 ghost use Rattle.std.specs.Prelude.{◌≡◌, ◌<◌, ◌^◌, map, sum};
 ghost use Rattle.std.specs.Option.{option_map};
 ghost use Rattle.prv_parse.specs.Trees.{stmt_count, body_count, counted};

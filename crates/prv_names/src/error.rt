@@ -1,3 +1,4 @@
+//! What may be wrong with the names of a program, each at the place of the name, and the limits on counts.
 use std::alloc::{AllocError, AllocFailed};
 use thiserror::Error;
 

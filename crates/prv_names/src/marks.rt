@@ -1,3 +1,5 @@
+//! The marks of a tree, in text order, each with whether it stands inside another. Whether a pair may use them
+//! so is decided where two versions are at hand.
 ghost use Rattle.std.specs.Prelude.{◌≡◌, ◌++◌, [], map, IfOk, OnOk};
 ghost use Rattle.prv_names.specs.Versions.{marks as marks_by, marks_else, in_order, marks_of};
 

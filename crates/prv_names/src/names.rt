@@ -1,3 +1,5 @@
+//! A list of distinct names with an index by hash, so that whether a name is there, and its number, take the
+//! time of one look-up.
 ghost use Rattle.std.specs.Prelude.{◌≡◌, [], length, take, position, OnOk};
 ghost use Rattle.std.specs.Str.{bytes_eq};
 ghost use Rattle.prv_names.specs.Scopes.{has as has_name, add as add_name};
@@ -13,7 +15,9 @@ use std::marker::Model;
 /// There is room for fewer than 2^32 of them.
 #[derive(Drop)]
 pub struct Names {
+    /// The bytes of each name, by a hash, in the order of the list.
     index: IndexSet<Vec<u8>>,
+    /// The names in the order in which they were added.
     list: Vec<Name>,
 }
 

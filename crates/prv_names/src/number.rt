@@ -1,3 +1,5 @@
+//! A tree of names with each name replaced by its variable's number. It is called only once the names were
+//! found right, so each has a number.
 ghost use Rattle.std.specs.Prelude.{◌≡◌, ◌≤◌, ◌<◌, true, length, map, sum, IfOk};
 ghost use Rattle.std.specs.Option.{option_map};
 ghost use Rattle.prv_model.specs.Words.{is_word};

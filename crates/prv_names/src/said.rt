@@ -1,3 +1,4 @@
+//! One thing that a program's text says of names and blocks.
 use prv_model::Name;
 use prv_parse::Ident;
 

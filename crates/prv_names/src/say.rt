@@ -1,3 +1,5 @@
+//! A tree as what its text says of names and blocks, one thing after another. Scoping is a matter of the text's
+//! order, so its rules are stated and tested over this list and not over the tree.
 ghost use Rattle.std.specs.Prelude.{◌≡◌, ◌++◌, ◌∷◌, [], map, IfOk, OnOk};
 ghost use Rattle.prv_names.specs.Sayings.{joined, uses, said as said_by, said_else, declared_by, said_of};
 

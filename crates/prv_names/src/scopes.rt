@@ -1,6 +1,8 @@
+//! What is declared and what is in scope at a place of the text. A block's end cuts the names in scope back to
+//! their count where it began, as scopes nest.
 ghost use Rattle.std.specs.Prelude.{◌≡◌, length, OnOk};
 ghost use Rattle.prv_names.specs.Scopes.{start, after, fault as fault_of};
-ghost use Rattle.prv_names.specs.Walks.{standing_of, IsNested};
+ghost use Rattle.prv_names.specs.ScopeStacks.{standing_of, IsNested};
 
 use crate::error::NameError;
 use crate::names::Names;

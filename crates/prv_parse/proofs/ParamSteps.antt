@@ -2,12 +2,12 @@
 use Rattle.std.proofs.Common.{◌≡◌, ℕ, zero, suc, ◌-◌, ◌<◌, List, [], ◌∷◌, ◌++◌, refl, sym, ap, subst, arith, ◌∙◌, true, false, Ok, append_assoc}
 use Rattle.prv_lex.specs.declared.token.Token.{Token}
 use Rattle.prv_parse.specs.Reader.{Out, Done, Bad, Deep, Many, bind, Named, ReadParams, params_with, param, params, params_behind, params_at, is_comma}
-use Rattle.prv_parse.specs.Skeletons.{kept}
+use Rattle.prv_rule.specs.Skeletons.{kept}
 use Rattle.prv_parse.specs.Cursors.{StopsBy}
 use Rattle.prv_parse.specs.Fixed.{head_is}
 use Rattle.prv_parse.specs.Statements.{ReadsParams, skeleton_in, named_with}
 use Rattle.prv_parse.specs.MainFunctions.{behind_params}
-use Rattle.prv_parse.specs.declared.skeleton.Skel.{Skel}
+use Rattle.prv_rule.specs.declared.skeleton.Skel.{Skel}
 use Rattle.prv_parse.specs.declared.tree.Ident.{Ident}
 use Rattle.prv_parse.specs.declared.fixed.Fixed.TheVariants.{Comma}
 use Rattle.prv_parse.specs.declared.stop.Stop.{Stop}

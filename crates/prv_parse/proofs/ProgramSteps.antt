@@ -6,7 +6,7 @@ use Rattle.prv_parse.specs.Reader.{Out, ReadProgram}
 use Rattle.prv_parse.specs.Statements.{skeleton_in}
 use Rattle.prv_parse.specs.MainFunctions.{program_with, ReadsProgram}
 use Rattle.prv_parse.specs.declared.main_function.MainFunction.{MainFunction}
-use Rattle.prv_parse.specs.declared.skeleton.Skel.{Skel}
+use Rattle.prv_rule.specs.declared.skeleton.Skel.{Skel}
 use Rattle.prv_parse.specs.declared.tree.Ident.{Ident}
 use Rattle.prv_parse.specs.declared.tree.StmtTree.{StmtTree}
 

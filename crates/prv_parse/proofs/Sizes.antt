@@ -1,20 +1,24 @@
--- A program has no more parameters, variables and statements than tokens.
-use Rattle.std.proofs.Common.{◌≡◌, ℕ, suc, ◌+◌, ◌<◌, ◌≤◌, ◌^◌, List, [], ◌∷◌, ◌++◌, length, map, refl, ap, sym, ◌∙◌, arith, length-append, Some, None, pos}
+-- A program has no more parameters, variables and statements than tokens: each of its values is weighed against the tokens that were read.
+use Rattle.std.proofs.Common.{◌≡◌, ℕ, zero, suc, ◌+◌, ◌-◌, ◌<◌, ◌≤◌, ◌^◌, Bool, List, [], ◌∷◌, ◌++◌, length, map, refl, ap, sym, subst, ◌∙◌, arith, Option, Some, None, pos}
 use Rattle.std.proofs.lemmas.List.Sums.{sum_by-cons}
-use Rattle.prv_lex.specs.declared.token.Tok.TheVariants as tok
-use Rattle.prv_lex.specs.declared.token.Key.TheVariants as key
-use Rattle.prv_lex.specs.declared.token.Sym.TheVariants as sy
-use Rattle.prv_parse.specs.Texts.{Laid, lay}
-use Rattle.prv_parse.specs.Grammar.{ident, IsMark, IsDecl, IsStmt, IsItems, IsParams, IsProgram}
-use Rattle.prv_parse.specs.Grammar as g
+use Rattle.prv_lex.specs.declared.token.Token.{Token}
+use Rattle.prv_lex.specs.declared.token.Tok.{Tok}
+use Rattle.prv_rule.specs.declared.skeleton.Skel.{Skel}
+use Rattle.prv_rule.specs.Rules.{Rule, Sequence, Repetition, Full, Attributes, attributes, joined, Out, Done, Stop, derives, derives_with, IsSequence, read_with, readers, at_end, bind}
+use Rattle.prv_rule.specs.Combinators.{preceded, terminated, mapped, optional, separated, nested}
+use Rattle.prv_rule.proofs.Weights.{Weighs, IsLight, reads-light, readers-light}
+use Rattle.prv_parse.specs.Refusals.{HasTree}
 use Rattle.prv_parse.specs.Trees.{node_count, stmt_count, body_count, node_declarations, declaration_count, body_declarations, IsTree}
-use Rattle.prv_parse.specs.declared.skeleton.Skel.{Skel}
 use Rattle.prv_parse.specs.declared.tree.Ident.{Ident}
 use Rattle.prv_parse.specs.declared.tree.Mark.{Mark}
 use Rattle.prv_parse.specs.declared.tree.ExprTree.{ExprTree}
 use Rattle.prv_parse.specs.declared.tree.ExprTree.TheVariants as expr
 use Rattle.prv_parse.specs.declared.tree.StmtTree.{StmtTree, StmtTree-F, fold-roll-StmtTree}
 use Rattle.prv_parse.specs.declared.tree.StmtTree.TheVariants as stmt
+use Rattle.prv_parse.specs.Nonterminals.{Nonterminal, Operand, Parenthesized, Choice, Statement, Block, Value}
+use Rattle.prv_parse.specs.Terminals.{open_paren, close_paren, open_brace, close_brace, colon, comma, equals, semicolon, int_word, main_word, if_word, else_word, while_word, return_word, out_word, assert_word, name}
+use Rattle.prv_parse.specs.Grammar.{table, operand, level, expression, test, ended, assigned, mark, initial, declaration, skip, braced, branch, loop, returned, output, assertion, marked_statement, assignment, statement, marked_item, item, block, parameter, program}
+use Rattle.prv_parse.proofs.Parsed.{read, has-read}
 
 -- an empty statement is one statement
 count-skip : stmt_count stmt.Skip ≡ 1
@@ -112,139 +116,187 @@ count-more s all = sum_by-cons (λ n. n) (stmt_count s) (map (λ s. stmt_count s
 declares-more : (s : StmtTree) (all : List StmtTree) → body_declarations (s ∷ all) ≡ declaration_count s + body_declarations all
 declares-more s all = sum_by-cons (λ n. n) (declaration_count s) (map (λ s. declaration_count s) all)
 
--- at most so many statements, and at most so many declarations
-record Within (n statements declarations : ℕ) : Type 0 where
-  few_statements : statements ≤ n
-  few_declarations : declarations ≤ n
+-- the weight of a statement: the statements and the declarations that it has
+abbrev weight : StmtTree → ℕ
+weight s = stmt_count s + declaration_count s
 
--- one node: its own token, and then those of what it has inside
-deeper : {n m c d counts declares : ℕ} → Within n c d → counts ≡ 1 + c → declares ≡ d → suc n ≤ m → Within m counts declares
-deeper is counts_is declares_is le =
-    record { few_statements = omega (arith, is.few_statements, counts_is, le); few_declarations = omega (arith, is.few_declarations, declares_is, le) }
+abbrev body_weight : List StmtTree → ℕ
+body_weight all = body_count all + body_declarations all
 
--- nothing inside
-alone : {m counts declares : ℕ} → counts ≡ 1 → declares ≤ 1 → 1 ≤ m → Within m counts declares
-alone counts_is declares_le le = record { few_statements = omega (arith, counts_is, le); few_declarations = omega (arith, declares_le, le) }
+abbrev other_weight : Option StmtTree → ℕ
+other_weight None = 0
+other_weight (Some s) = weight s
 
--- two texts, one behind the other
-both : {n m c d e f : ℕ} → Within n c d → Within m e f → Within (n + m) (c + e) (d + f)
-both is more =
-    record { few_statements = omega (arith, is.few_statements, more.few_statements); few_declarations = omega (arith, is.few_declarations, more.few_declarations) }
+-- of what stands inside constructs; expressions have no weight
+abbrev w : (k : Nonterminal) → Value k → ℕ
+w Operand e = 0
+w Parenthesized e = 0
+w Choice e = 0
+w Statement s = weight s
+w Block all = body_weight all
 
--- a statement of a text has no more of either than the text has tokens
-Fits : List Laid → StmtTree → Type 0
-Fits text s = Within (length text) (stmt_count s) (declaration_count s)
+if-weight : (c : ExprTree) (a : StmtTree) (o : Option StmtTree) → weight (stmt.If c a o) ≤ (1 + weight a) + other_weight o
+if-weight c a None = omega (arith, count-if_only c a, declares-if_only c a)
+if-weight c a (Some b) = omega (arith, count-if_else c a b, declares-if_else c a b)
 
--- nor have all of a body
-AllFit : List Laid → List StmtTree → Type 0
-AllFit text all = Within (length text) (body_count all) (body_declarations all)
+-- a rule behind a token without weight, or with it, and before one
+preceded-by : {A : Type 0} (t : Rule Value (Unit {0})) (a : Rule Value A) (m : A → ℕ) → Weighs w t (λ u. 0) → Weighs w a m → Weighs w (preceded t a) m
+preceded-by t a m h g = (λ u. 0, m, h, g, λ u v. omega arith)
 
--- a declaration with or without a value
-decl_fits : {d : ℕ} {text : List Laid} {s : StmtTree} → IsDecl d text s → Fits text s
-unfolding Fits
-decl_fits (g.bare {q = q} x) = alone (count-declare (ident x q) (expr.Num (pos 0))) (omega (arith, declares-declare (ident x q) (expr.Num (pos 0)))) (omega arith)
-decl_fits (g.valued {q = q} {e = e} x is) = alone (count-declare (ident x q) e) (omega (arith, declares-declare (ident x q) e)) (omega arith)
+counted-by : {A : Type 0} (t : Rule Value (Unit {0})) (a : Rule Value A) (m : A → ℕ) → Weighs w t (λ u. 1) → Weighs w a m → Weighs w (preceded t a) (λ v. 1 + m v)
+counted-by t a m h g = (λ u. 1, m, h, g, λ u v. omega arith)
 
--- a mark is two tokens
-mark_length : {d : ℕ} {front : List Laid} {m : Mark} → IsMark d front m → length front ≡ 2
-mark_length (g.mark number low high) = refl
+terminated-by : {A : Type 0} (t : Rule Value (Unit {0})) (a : Rule Value A) (m : A → ℕ) → Weighs w t (λ u. 0) → Weighs w a m → Weighs w (terminated a t) m
+terminated-by t a m h g = (m, λ u. 0, g, h, λ v u. omega arith)
 
--- what a mark stands before
-marked_fits : (front body : List Laid) (m : Mark) (a : StmtTree) → length front ≡ 2 → Fits body a → Fits (front ++ body) (stmt.Marked m a)
-unfolding Fits
-marked_fits front body m a two is = deeper is (count-marked m a) (declares-marked m a) (omega (arith, length-append front body, two))
+-- with another value
+mapped-by : {A B : Type 0} (f : A → B) (a : Rule Value A) (m : B → ℕ) → Weighs w a (λ v. m (f v)) → Weighs w (mapped f a) m
+mapped-by f a m g = (λ u. 0, λ v. m (f v), refl, g, λ u v. omega arith)
 
--- one more item before the others of a body
-more_fits : (first rest : List Laid) (s : StmtTree) (all : List StmtTree) → Fits first s → AllFit rest all → AllFit (first ++ rest) (s ∷ all)
-unfolding Fits AllFit
-more_fits first rest s all is more = record {
-  few_statements = omega (arith, is.few_statements, more.few_statements, count-more s all, length-append first rest);
-  few_declarations = omega (arith, is.few_declarations, more.few_declarations, declares-more s all, length-append first rest);
-}
+-- what a token opens
+nested-by : (k : Nonterminal) (t : Rule Value (Unit {0})) (m : Value k → ℕ) → Weighs w t (λ u. 1) → ((v : Value k) → m v ≤ 1 + w k v) → Weighs w (nested k t) m
+nested-by k t m g h = (λ u. 1, g, tt, λ u v. h v)
 
--- a node with nothing inside, that is no declaration
-alone_fits : (text : List Laid) (s : StmtTree) → stmt_count s ≡ 1 → declaration_count s ≡ 0 → 1 ≤ length text → Fits text s
-unfolding Fits
-alone_fits text s counts declares le = alone counts (omega (arith, declares)) le
+-- expressions
+light-operand : Weighs w operand (λ e. 0)
+light-operand = (λ t v e. omega arith, ((λ op. 0, λ t v e. omega arith, tt, λ op e. omega arith), (λ u. 0, λ t v e. omega arith, tt, λ u e. omega arith)))
 
--- an `if` with no `else`
-if_only_fits : (t : Laid) (test pick : List Laid) (c : ExprTree) (a : StmtTree) → Fits pick a → Fits (t ∷ test ++ pick) (stmt.If c a None)
-unfolding Fits
-if_only_fits t test pick c a is = deeper is (count-if_only c a ∙ omega arith) (declares-if_only c a ∙ omega arith) (omega (arith, length-append test pick))
+light-level : (k : ℕ) → Weighs w (level k) (λ e. 0)
+light-level zero = light-operand
+light-level (suc k) = (λ e. 0, λ ps. 0, light-level k, (λ p. 0, (λ op. 0, λ e. 0, λ t v e. omega arith, light-level k, λ op e. omega arith), refl, λ p ps. omega arith), λ e ps. omega arith)
 
--- an `if` with an `else`
-if_else_fits : (t u : Laid) (test pick other : List Laid) (c : ExprTree) (a b : StmtTree) → Fits pick a → Fits other b → Fits (t ∷ test ++ pick ++ u ∷ other) (stmt.If c a (Some b))
-unfolding Fits
-if_else_fits t u test pick other c a b is more = deeper (both is more) (count-if_else c a b) (declares-if_else c a b) (omega (arith, length-append test pick, length-append (test ++ pick) (u ∷ other)))
+light-expression : Weighs w expression (λ e. 0)
+light-expression = (λ e. 0, λ o. 0, light-level 10, ((λ u. 0, λ p. 0, refl, (λ u. 0, λ t v e. omega arith, tt, λ u p. omega arith), λ u p. omega arith), refl), λ e o. omega arith)
 
--- a loop
-while_fits : (t : Laid) (test body : List Laid) (c : ExprTree) (a : StmtTree) → Fits body a → Fits (t ∷ test ++ body) (stmt.While c a)
-unfolding Fits
-while_fits t test body c a is = deeper is (count-while c a) (declares-while c a) (omega (arith, length-append test body))
+light-ended : Weighs w ended (λ e. 0)
+light-ended = terminated-by semicolon (Full expression) (λ e. 0) (λ t v e. omega arith) light-expression
 
--- a block
-block_fits : (t u : Laid) (items : List Laid) (all : List StmtTree) → AllFit items all → Fits (t ∷ items ++ u ∷ []) (stmt.Block all)
-unfolding Fits AllFit
-block_fits t u items all is = deeper is (count-block all) (declares-block all) (omega (arith, length-append items (u ∷ [])))
+light-assigned : Weighs w assigned (λ e. 0)
+light-assigned = preceded-by equals ended (λ e. 0) (λ t v e. omega arith) light-ended
 
--- an empty body
-none_fit : AllFit [] []
-unfolding AllFit
-none_fit = record { few_statements = omega arith; few_declarations = omega arith }
+light-test : Weighs w test (λ e. 0)
+light-test = preceded-by open_paren (terminated (Full expression) close_paren) (λ e. 0) (λ t v e. omega arith) (terminated-by close_paren (Full expression) (λ e. 0) (λ t v e. omega arith) light-expression)
 
-mutual
-  -- every statement of the grammar has no more statements, nor declarations, than tokens
-  stmt_fits : {d : ℕ} {text : List Laid} {s : StmtTree} {k : List Skel} → IsStmt d text s k → Fits text s
-  stmt_fits (g.skip {d = d} {p = p} {n = n}) = alone_fits (lay (tok.Sym sy.Semicolon) p d n ∷ []) stmt.Skip count-skip declares-skip (omega arith)
-  stmt_fits (g.set {d = d} {p = p} {n = n} {q = q} {m = m} {value = value} {e = e} x is) =
-      alone_fits (lay (tok.Name x) p d n ∷ lay (tok.Sym sy.Assign) q d m ∷ value) (stmt.Set (ident x p) e) (count-set (ident x p) e) (declares-set (ident x p) e) (omega arith)
-  stmt_fits (g.if_only {d = d} {p = p} {n = n} {c = c} {a = a} test pick is r) = if_only_fits (lay (tok.Key key.If) p d n) test pick c a (stmt_fits r)
-  stmt_fits (g.if_else {d = d} {c = c} {a = a} {b = b} p n q m test pick other is r no_more s) =
-      if_else_fits (lay (tok.Key key.If) p d n) (lay (tok.Key key.Else) q d m) test pick other c a b (stmt_fits r) (stmt_fits s)
-  stmt_fits (g.while_do {d = d} {p = p} {n = n} {c = c} {a = a} test body is r) = while_fits (lay (tok.Key key.While) p d n) test body c a (stmt_fits r)
-  stmt_fits (g.return_value {d = d} {p = p} {n = n} {value = value} {e = e} is) =
-      alone_fits (lay (tok.Key key.Return) p d n ∷ value) (stmt.Return e) (count-return e) (declares-return e) (omega arith)
-  stmt_fits (g.out_value {d = d} {e = e} p n q m test is) =
-      alone_fits (lay (tok.Key key.Out) p d n ∷ test ++ lay (tok.Sym sy.Semicolon) q d m ∷ []) (stmt.Out e) (count-out e) (declares-out e) (omega arith)
-  stmt_fits (g.assert_that {d = d} {e = e} p n q m test is) =
-      alone_fits (lay (tok.Key key.Assert) p d n ∷ test ++ lay (tok.Sym sy.Semicolon) q d m ∷ []) (stmt.Assert e) (count-assert e) (declares-assert e) (omega arith)
-  stmt_fits (g.block {d = d} {all = all} p n q m items r) = block_fits (lay (tok.Sym sy.OpenBrace) p d n) (lay (tok.Sym sy.CloseBrace) q (suc d) m) items all (items_fit r)
-  stmt_fits (g.marked {m = m} {a = a} front body at r) = marked_fits front body m a (mark_length at) (stmt_fits r)
+light-mark : Weighs w mark (λ m. 1)
+light-mark = (λ n. 1, λ n. 0, λ t v e. omega arith, λ t v e. omega arith, λ m n. omega arith)
 
-  -- and so have all items of a body
-  items_fit : {d : ℕ} {text : List Laid} {all : List StmtTree} {k : List Skel} → IsItems d text all k → AllFit text all
-  items_fit g.none = none_fit
-  items_fit (g.statement {s = s} {all = all} first rest r more) = more_fits first rest s all (stmt_fits r) (items_fit more)
-  items_fit (g.declaration {s = s} {all = all} first rest is more) = more_fits first rest s all (decl_fits is) (items_fit more)
-  items_fit (g.marked_declaration {m = m} {s = s} {all = all} front first rest at is more) =
-      more_fits (front ++ first) rest (stmt.Marked m s) all (marked_fits front first m s (mark_length at) (decl_fits is)) (items_fit more)
+-- statements
+light-skip : Weighs w skip weight
+light-skip = mapped-by (λ (u : Unit {0}). stmt.Skip) semicolon weight (λ t v e. omega (arith, count-skip, declares-skip))
 
--- each parameter has tokens of its own
-params_fit : {names : List Laid} {params : List Ident} → IsParams names params → length params ≤ length names
-params_fit (g.one x) = omega arith
-params_fit (g.more {rest = rest} {others = others} x is) = omega (arith, params_fit is)
+light-braced : Weighs w braced weight
+light-braced = mapped-by (λ all. stmt.Block all) (nested Block open_brace) weight (nested-by Block open_brace (λ all. weight (stmt.Block all)) (λ t v e. omega arith) (λ all. omega (arith, count-block all, declares-block all)))
 
--- there is one
-some_param : {names : List Laid} {params : List Ident} → IsParams names params → 0 < length params
-some_param (g.one x) = omega arith
-some_param (g.more x is) = omega arith
+light-branch : Weighs w branch weight
+light-branch = (
+  λ (p : ExprTree × StmtTree). 1 + weight p.1,
+  other_weight,
+  (λ c. 1, counted-by if_word test (λ e. 0) (λ t v e. omega arith) light-test, tt, λ c s. omega arith),
+  (mapped-by (λ s. Some s) (nested Statement else_word) other_weight (nested-by Statement else_word (λ s. weight s) (λ t v e. omega arith) (λ s. omega arith)), refl),
+  λ (p : ExprTree × StmtTree) other. if-weight p.0 p.1 other,
+)
 
--- a program's parameters and its items are parts of its text with nothing in common
-parts_fit : (text names items : List Laid) (params : List Ident) (body : List StmtTree) → 0 < length params → length params ≤ length names → AllFit items body
-    → length names + length items ≤ length text → length text < 2 ^ 28 → IsTree params body
-unfolding AllFit
-parts_fit text names items params body some few is parts short = record {
-  some_params = some;
-  few_params = omega (arith, few, parts, short);
-  few_variables = omega (arith, few, is.few_declarations, parts, short);
-  few_statements = omega (arith, is.few_statements, parts, short);
-}
+light-loop : Weighs w loop weight
+light-loop = (λ c. 1, counted-by while_word test (λ e. 0) (λ t v e. omega arith) light-test, tt, λ c s. omega (arith, count-while c s, declares-while c s))
 
--- a program with fewer than 2^28 tokens is small
-pub small : (text : List Laid) (params : List Ident) (body : List StmtTree) (skeleton : List Skel) → IsProgram text params body skeleton → length text < 2 ^ 28 → IsTree params body
-small text params body skeleton (g.program p n q m r k s j t i u h names items is_names is_items) short =
-    let front : List Laid = lay (tok.Key key.Int) p 0 n ∷ lay (tok.Key key.Main) q 0 m ∷ lay (tok.Sym sy.OpenParen) r 0 k ∷ names in
-    let middle : List Laid = lay (tok.Sym sy.CloseParen) s 0 j ∷ lay (tok.Sym sy.OpenBrace) t 0 i ∷ items in
-    let last : List Laid = lay (tok.Sym sy.CloseBrace) u 1 h ∷ [] in
-    parts_fit (front ++ middle ++ last) names items params body (some_param is_names) (params_fit is_names) (items_fit is_items)
-    (omega (arith, length-append front middle, length-append (front ++ middle) last)) short
+light-returned : Weighs w returned weight
+light-returned = mapped-by (λ e. stmt.Return e) (preceded return_word ended) weight (λ u. 1, λ e. 0, λ t v e. omega arith, light-ended, λ u e. omega (arith, count-return e, declares-return e))
+
+light-output : Weighs w output weight
+light-output = mapped-by (λ e. stmt.Out e) (preceded out_word (terminated test semicolon)) weight (λ u. 1, λ e. 0, λ t v e. omega arith, terminated-by semicolon test (λ e. 0) (λ t v e. omega arith) light-test, λ u e. omega (arith, count-out e, declares-out e))
+
+light-assertion : Weighs w assertion weight
+light-assertion = mapped-by (λ e. stmt.Assert e) (preceded assert_word (terminated test semicolon)) weight (λ u. 1, λ e. 0, λ t v e. omega arith, terminated-by semicolon test (λ e. 0) (λ t v e. omega arith) light-test, λ u e. omega (arith, count-assert e, declares-assert e))
+
+light-marked_statement : Weighs w marked_statement weight
+light-marked_statement = (λ (p : Mark × StmtTree). 1 + weight p.1, (λ m. 1, light-mark, tt, λ m s. omega arith), λ (p : Mark × StmtTree). omega (arith, count-marked p.0 p.1, declares-marked p.0 p.1))
+
+light-assignment : Weighs w assignment weight
+light-assignment = (λ x. 1, λ e. 0, λ t v e. omega arith, light-assigned, λ x e. omega (arith, count-set x e, declares-set x e))
+
+light-statement : Weighs w statement weight
+light-statement = (light-skip, (light-braced, (light-branch, (light-loop, (light-returned, (light-output, (light-assertion, (light-marked_statement, light-assignment))))))))
+
+-- declarations and blocks
+light-initial : Weighs w initial (λ e. 0)
+light-initial = (mapped-by (λ (u : Unit {0}). expr.Num (pos 0)) semicolon (λ e. 0) (λ t v e. omega arith), light-assigned)
+
+light-declaration : Weighs w declaration weight
+light-declaration = (
+  λ u. 1,
+  λ s. weight s - 1,
+  λ t v e. omega arith,
+  (λ x. 1, λ e. 0, λ t v e. omega arith, light-initial, λ x e. omega (arith, count-declare x e, declares-declare x e)),
+  λ u s. omega arith,
+)
+
+light-item : Weighs w item weight
+light-item = (
+  light-declaration,
+  (
+    (λ (p : Mark × StmtTree). 1 + weight p.1, (λ m. 1, light-mark, light-declaration, λ m s. omega arith), λ (p : Mark × StmtTree). omega (arith, count-marked p.0 p.1, declares-marked p.0 p.1)),
+    light-statement,
+  ),
+)
+
+light-block : Weighs w block body_weight
+light-block = terminated-by close_brace (Repetition item) body_weight (λ t v e. omega arith) (weight, light-item, refl, λ s all. omega (arith, count-more s all, declares-more s all))
+
+light-table : (k : Nonterminal) → Weighs w (table k) (w k)
+light-table Operand = light-operand
+light-table Parenthesized = terminated-by close_paren expression (λ e. 0) (λ t v e. omega arith) light-expression
+light-table Choice = (λ e. 0, λ e. 0, light-expression, preceded-by colon expression (λ e. 0) (λ t v e. omega arith) light-expression, λ a b. omega arith)
+light-table Statement = light-statement
+light-table Block = light-block
+
+-- programs
+light-parameter : Weighs w parameter (λ x. 1)
+light-parameter = preceded-by int_word name (λ x. 1) (λ t v e. omega arith) (λ t v e. omega arith)
+
+abbrev program_weight : List Ident × List StmtTree → ℕ
+program_weight p = length p.0 + body_weight p.1
+
+light-parameters : Weighs w (separated parameter comma) (λ xs. length xs)
+light-parameters = (λ x. 1, λ xs. length xs, light-parameter, (λ x. 1, preceded-by comma parameter (λ x. 1) (λ t v e. omega arith) light-parameter, refl, λ x xs. omega arith), λ x xs. omega arith)
+
+abbrev function : Rule Value (List Ident × List StmtTree)
+function = Sequence (λ params body. (params, body)) (separated parameter comma) (preceded close_paren (nested Block open_brace))
+
+light-function : Weighs w function program_weight
+light-function = (λ params. length params, body_weight, light-parameters, preceded-by close_paren (nested Block open_brace) body_weight (λ t v e. omega arith) (nested-by Block open_brace body_weight (λ t v e. omega arith) (λ all. omega arith)), λ params body. omega arith)
+
+light-program : Weighs w program program_weight
+light-program =
+    preceded-by int_word (preceded main_word (preceded open_paren function)) program_weight (λ t v e. omega arith)
+    (preceded-by main_word (preceded open_paren function) program_weight (λ t v e. omega arith) (preceded-by open_paren function program_weight (λ t v e. omega arith) light-function))
+
+-- what a file is read as weighs no more than its tokens
+light : (tokens : List Token) (u : Attributes (List Ident × List StmtTree)) → read tokens ≡ Done u [] → program_weight u.value ≤ length tokens
+light tokens u e = at (read_with (readers table 100) program 0 tokens) (reads-light w (readers table 100) (readers-light table w light-table 100) program program_weight light-program 0 tokens) e
+  where
+    ends : (v : Attributes (List Ident × List StmtTree)) (rest : List Token) → program_weight v.value + length rest ≤ length tokens → at_end v rest ≡ Done u [] → program_weight u.value ≤ length tokens
+    ends v [] l e = let same : v ≡ u = cc in subst (λ u. program_weight u.value ≤ length tokens) same (let k : program_weight v.value + 0 ≤ length tokens = l in omega arith)
+    ends v (t ∷ rest) l e = absurd (cc)
+
+    at : (o : Out (List Ident × List StmtTree)) → IsLight program_weight tokens o → bind o (λ u rest. at_end u rest) ≡ Done u [] → program_weight u.value ≤ length tokens
+    at (Done v rest) l e = ends v rest l e
+    at (Stop y rest) l e = absurd (cc)
+
+-- there is a parameter
+some-params : (tokens : List Token) (params : List Ident) (body : List StmtTree) (skeleton : List Skel) → HasTree tokens params body skeleton → 0 < length params
+some-params tokens params body skeleton t =
+    let main = t.reads.1.derived.derives_other in
+    let open_paren = main.derives_other in
+    let both = open_paren.derives_other in
+    let list = both.derives_one in
+    let is : params ≡ list.one.value ∷ list.other.value =
+    ap (λ (g : Attributes (List Ident × List StmtTree)). g.value.0) (t.reads.1.derived.got_is) ∙ ap (λ (g : Attributes (List Ident × List StmtTree)). g.value.0) main.got_is ∙ ap (λ (g : Attributes (List Ident × List StmtTree)). g.value.0) open_paren.got_is
+    ∙ ap (λ (g : Attributes (List Ident × List StmtTree)). g.value.0) both.got_is ∙ ap (λ (g : Attributes (List Ident)). g.value) list.got_is in
+    let count : length params ≡ suc (length list.other.value) = ap length is in omega arith
+
+-- fewer than 2^28 tokens have a small tree
+pub tree-small : (tokens : List Token) (params : List Ident) (body : List StmtTree) (skeleton : List Skel) → HasTree tokens params body skeleton → length tokens < 2 ^ 28 → IsTree params body
+tree-small tokens params body skeleton has few =
+    let x = has-read tokens params body skeleton has in
+    let l : length params + (body_count body + body_declarations body) ≤ length tokens = light tokens (attributes (params, body) x.0 skeleton) x.1 in
+    record { some_params = some-params tokens params body skeleton has; few_params = omega arith; few_variables = omega arith; few_statements = omega arith }

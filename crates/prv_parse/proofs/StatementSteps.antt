@@ -5,7 +5,7 @@ use Rattle.prv_parse.specs.Reader.{Out, Done, Bad, Deep, Many, bind, Statement, 
 use Rattle.prv_parse.specs.Cursors.{StopsBy}
 use Rattle.prv_parse.specs.Statements.{ReadsItems, ReadsStmt, skeleton_in, body_of, body_at}
 use Rattle.prv_parse.proofs.Steps.{stops-first}
-use Rattle.prv_parse.specs.declared.skeleton.Skel.{Skel}
+use Rattle.prv_rule.specs.declared.skeleton.Skel.{Skel}
 use Rattle.prv_parse.specs.declared.tree.Mark.{Mark}
 use Rattle.prv_parse.specs.declared.tree.StmtTree.{StmtTree}
 use Rattle.prv_parse.specs.declared.stop.Stop.{Stop}

@@ -1,139 +1,143 @@
--- The grammar: which texts are programs, and of which tree. Each token is laid inside the constructs that are open around it.
-use Rattle.std.specs.Prelude.{◌≡◌, ℕ, suc, ◌<◌, ◌≤◌, Bool, true, false, List, [], ◌∷◌, ◌++◌, Option, Some, None, ℤ, pos}
-use Rattle.prv_lex.specs.declared.token.Tok.TheVariants as tok
-use Rattle.prv_lex.specs.declared.token.Key.TheVariants as key
-use Rattle.prv_lex.specs.declared.token.Sym.{Sym}
-use Rattle.prv_lex.specs.declared.token.Sym.TheVariants as sym
-use Rattle.prv_model.specs.declared.op.UnOp.{UnOp}
+-- The grammar of Mc32, as a table of rules. Each rule has its production above it in extended Backus-Naur form: `[ ]` is one or none, `{ }` any number, `|` an alternative, the first whose first token fits.
+-- What stands inside a construct is a nonterminal, since its tokens are one nesting deeper.
+use Rattle.std.specs.Prelude.{ℕ, zero, suc, List, [], ◌∷◌, Option, Some, None, pos}
 use Rattle.prv_model.specs.declared.op.BinOp.{BinOp}
-use Rattle.prv_parse.specs.Operators.{unary_of, binary_of, precedence}
-use Rattle.prv_parse.specs.Texts.{Laid, lay, tokens_of, IsCounted}
-use Rattle.prv_parse.specs.Skeletons.{plain, hole}
-use Rattle.prv_parse.specs.declared.skeleton.Skel.{Skel}
+use Rattle.prv_rule.specs.Skeletons.{hole}
+use Rattle.prv_rule.specs.Rules.{Rule, Sequence, Repetition, Full, Hole, Construct, Table}
+use Rattle.prv_rule.specs.Combinators.{◌or◌, preceded, terminated, mapped, optional, separated, nested, opening}
+use Rattle.prv_parse.specs.Places.{mark_at}
+use Rattle.prv_parse.specs.Nonterminals.{Nonterminal, Operand, Parenthesized, Choice, Statement, Block, Value}
+use Rattle.prv_parse.specs.Terminals.{open_paren, close_paren, open_brace, close_brace, semicolon, comma, equals, question, colon, int_word, main_word, if_word, else_word, while_word, return_word, out_word, assert_word, leaf, name, prefix_operator, infix_operator, at_sign, mark_value}
 use Rattle.prv_parse.specs.declared.tree.Ident.{Ident}
 use Rattle.prv_parse.specs.declared.tree.Mark.{Mark}
 use Rattle.prv_parse.specs.declared.tree.ExprTree.{ExprTree}
 use Rattle.prv_parse.specs.declared.tree.ExprTree.TheVariants as expr
 use Rattle.prv_parse.specs.declared.tree.StmtTree.{StmtTree}
 use Rattle.prv_parse.specs.declared.tree.StmtTree.TheVariants as stmt
-use Rattle.prv_parse.specs.declared.tree.StmtTree.TheOpen.{StmtTree-F}
-use Rattle.prv_parse.specs.declared.tree.StmtTree.TheFolds.{fold-StmtTree}
 
--- a name at a place
-abbrev pub ident : List ℕ → ℕ → Ident
-ident name place = record { name = name; place = place }
+-- operand  =  number | name | prefix-operator operand | "(" expression ")"
+abbrev pub operand : Rule Value ExprTree
+operand =
+    leaf
+    or opening Operand (λ op e. expr.Un op e) prefix_operator
+    or nested Parenthesized open_paren
 
--- a mark at a place
-abbrev pub mark_at : ℕ → ℕ → Mark
-mark_at number place = record { number = number; place = place }
+-- operators of one precedence group to the left
+abbrev pub grouped : ExprTree → List (BinOp × ExprTree) → ExprTree
+grouped a [] = a
+grouped a (p ∷ ps) = grouped (expr.Bin p.0 a p.1) ps
 
--- expressions: precedence 0 are operands, 1 to 10 the operators from the tightest to the loosest, each grouped to the left, and 11 choices, grouped to the right
-pub data IsExpr : ℕ → ℕ → List Laid → ExprTree → Type 0 where
-  number : {d p n : ℕ} (w : ℤ) → IsExpr 0 d (lay (tok.Num w) p d n ∷ []) (expr.Num w)
-  name : {d p n : ℕ} (x : List ℕ) → IsExpr 0 d (lay (tok.Name x) p d n ∷ []) (expr.Name (ident x p))
-  parens : {d : ℕ} {e : ExprTree} (p n q m : ℕ) (inner : List Laid) → IsExpr 11 (suc d) inner e
-      → IsExpr 0 d (lay (tok.Sym sym.OpenParen) p d n ∷ inner ++ lay (tok.Sym sym.CloseParen) q (suc d) m ∷ []) e
-  unary : {d p n : ℕ} {a : ExprTree} (s : Sym) (op : UnOp) (operand : List Laid) → unary_of s ≡ Some op → IsExpr 0 (suc d) operand a
-      → IsExpr 0 d (lay (tok.Sym s) p d n ∷ operand) (expr.Un op a)
-  tighter : {k d : ℕ} {text : List Laid} {e : ExprTree} → k < 11 → IsExpr k d text e → IsExpr (suc k) d text e
-  binary : {k d : ℕ} {a b : ExprTree} (p n : ℕ) (s : Sym) (op : BinOp) (left right : List Laid) → binary_of s ≡ Some op → precedence op ≡ suc k
-      → IsExpr (suc k) d left a → IsExpr k d right b
-      → IsExpr (suc k) d (left ++ lay (tok.Sym s) p d n ∷ right) (expr.Bin op a b)
-  choice : {d : ℕ} {c a b : ExprTree} (p n q m : ℕ) (test chosen other : List Laid) → IsExpr 10 d test c → IsExpr 11 (suc d) chosen a → IsExpr 11 (suc d) other b
-      → IsExpr 11 d (test ++ lay (tok.Sym sym.Question) p d n ∷ chosen ++ lay (tok.Sym sym.Colon) q (suc d) m ∷ other) (expr.Pick c a b)
+-- operand of an operator  =  infix-operator operand
+abbrev pub applied : ℕ → Rule Value ExprTree → Rule Value (BinOp × ExprTree)
+applied k tighter = Sequence (λ op e. (op, e)) (infix_operator k) tighter
 
--- a full expression, which is no part of another one: its operators are counted from 0
-pub record IsFull (d : ℕ) (text : List Laid) (e : ExprTree) : Type 0 where
-  pub reads : IsExpr 11 d text e
-  pub counted : IsCounted 0 text
+-- level 0  =  operand;  level k+1  =  level k { infix-operator-of-precedence-k+1 level k }
+abbrev pub level : ℕ → Rule Value ExprTree
+level zero = operand
+level (suc k) = Sequence grouped (level k) (Repetition (applied k (level k)))
 
--- what stands behind `if`, `while`, `out` and `assert`: a full expression in parentheses
-pub data IsTest : ℕ → List Laid → ExprTree → Type 0 where
-  in_parens : {d : ℕ} {e : ExprTree} (p n q m : ℕ) (inner : List Laid) → IsFull d inner e
-      → IsTest d (lay (tok.Sym sym.OpenParen) p d n ∷ inner ++ lay (tok.Sym sym.CloseParen) q d m ∷ []) e
+abbrev pub picked : ExprTree → Option (ExprTree × ExprTree) → ExprTree
+picked c None = c
+picked c (Some p) = expr.Pick c p.0 p.1
 
--- a full expression up to its `;`
-pub data IsEnded : ℕ → List Laid → ExprTree → Type 0 where
-  ended : {d : ℕ} {e : ExprTree} (p n : ℕ) (value : List Laid) → IsFull d value e → IsEnded d (value ++ lay (tok.Sym sym.Semicolon) p d n ∷ []) e
+-- expression  =  level 10 [ "?" expression ":" expression ]
+abbrev pub expression : Rule Value ExprTree
+expression = Sequence picked (level 10) (optional (nested Choice question))
 
--- a declaration: `int x;`, which is `int x = 0;`, or `int x = e;`
-pub data IsDecl : ℕ → List Laid → StmtTree → Type 0 where
-  bare : {d p i q j r k : ℕ} (x : List ℕ)
-      → IsDecl d (lay (tok.Key key.Int) p d i ∷ lay (tok.Name x) q d j ∷ lay (tok.Sym sym.Semicolon) r d k ∷ []) (stmt.Declare (ident x q) (expr.Num (pos 0)))
-  valued : {d p i q j r k : ℕ} {value : List Laid} {e : ExprTree} (x : List ℕ) → IsEnded d value e
-      → IsDecl d (lay (tok.Key key.Int) p d i ∷ lay (tok.Name x) q d j ∷ lay (tok.Sym sym.Assign) r d k ∷ value) (stmt.Declare (ident x q) e)
+-- test  =  "(" expression ")"
+abbrev pub test : Rule Value ExprTree
+test = preceded open_paren (terminated (Full expression) close_paren)
 
--- a mark: `@` and a number from 1 to 255
-pub data IsMark : ℕ → List Laid → Mark → Type 0 where
-  mark : {d p i q j : ℕ} (number : ℕ) → 1 ≤ number → number ≤ 255
-      → IsMark d (lay (tok.Sym sym.At) p d i ∷ lay (tok.Num (pos number)) q d j ∷ []) (mark_at number p)
+-- ended  =  expression ";"
+abbrev pub ended : Rule Value ExprTree
+ended = terminated (Full expression) semicolon
 
--- a branch of an `else` that is there and takes another one, or is missing
-abbrev pub takes : Option Bool → Bool
-takes None = true
-takes (Some b) = b
+-- assigned  =  "=" ended
+abbrev pub assigned : Rule Value ExprTree
+assigned = preceded equals ended
 
--- one node, with whether each child takes an `else` in its place
-abbrev pub node_takes_else : StmtTree-F Bool → Bool
-node_takes_else (StmtTree-F.If c chosen other) = takes other
-node_takes_else (StmtTree-F.While c body) = body
-node_takes_else (StmtTree-F.Marked m body) = body
-node_takes_else _ = false
+-- mark  =  "@" number
+abbrev pub mark : Rule Value Mark
+mark = Sequence (λ place number. mark_at number place) at_sign mark_value
 
--- a statement ends with an `if` that has no `else`: one that follows belongs to it
-abbrev pub takes_else : StmtTree → Bool
-takes_else = fold-StmtTree Bool node_takes_else
+-- a marked body is one hole of the skeleton
+abbrev pub marked : Rule Value (Mark × StmtTree) → Rule Value StmtTree
+marked a = Hole (λ p. hole p.0.number p.0.place) (λ p. stmt.Marked p.0 p.1) a
 
-mutual
-  -- statements, with their skeletons
-  pub data IsStmt : ℕ → List Laid → StmtTree → List Skel → Type 0 where
-    skip : {d p n : ℕ} → IsStmt d (lay (tok.Sym sym.Semicolon) p d n ∷ []) stmt.Skip (plain (tokens_of (lay (tok.Sym sym.Semicolon) p d n ∷ [])))
-    set : {d p n q m : ℕ} {value : List Laid} {e : ExprTree} (x : List ℕ) → IsEnded d value e
-        → IsStmt d (lay (tok.Name x) p d n ∷ lay (tok.Sym sym.Assign) q d m ∷ value) (stmt.Set (ident x p) e)
-        (plain (tokens_of (lay (tok.Name x) p d n ∷ lay (tok.Sym sym.Assign) q d m ∷ value)))
-    if_only : {d p n : ℕ} {c : ExprTree} {a : StmtTree} {inner : List Skel} (test chosen : List Laid) → IsTest d test c → IsStmt (suc d) chosen a inner
-        → IsStmt d (lay (tok.Key key.If) p d n ∷ test ++ chosen) (stmt.If c a None) (plain (tokens_of (lay (tok.Key key.If) p d n ∷ test)) ++ inner)
-    if_else : {d : ℕ} {c : ExprTree} {a b : StmtTree} {inner last : List Skel} (p n q m : ℕ) (test chosen other : List Laid) → IsTest d test c
-        → IsStmt (suc d) chosen a inner → takes_else a ≡ false → IsStmt (suc d) other b last
-        → IsStmt d (lay (tok.Key key.If) p d n ∷ test ++ chosen ++ lay (tok.Key key.Else) q d m ∷ other) (stmt.If c a (Some b))
-        (plain (tokens_of (lay (tok.Key key.If) p d n ∷ test)) ++ inner ++ plain (tokens_of (lay (tok.Key key.Else) q d m ∷ [])) ++ last)
-    while_do : {d p n : ℕ} {c : ExprTree} {a : StmtTree} {inner : List Skel} (test body : List Laid) → IsTest d test c → IsStmt (suc d) body a inner
-        → IsStmt d (lay (tok.Key key.While) p d n ∷ test ++ body) (stmt.While c a) (plain (tokens_of (lay (tok.Key key.While) p d n ∷ test)) ++ inner)
-    return_value : {d p n : ℕ} {value : List Laid} {e : ExprTree} → IsEnded d value e
-        → IsStmt d (lay (tok.Key key.Return) p d n ∷ value) (stmt.Return e) (plain (tokens_of (lay (tok.Key key.Return) p d n ∷ value)))
-    out_value : {d : ℕ} {e : ExprTree} (p n q m : ℕ) (test : List Laid) → IsTest d test e
-        → IsStmt d (lay (tok.Key key.Out) p d n ∷ test ++ lay (tok.Sym sym.Semicolon) q d m ∷ []) (stmt.Out e)
-        (plain (tokens_of (lay (tok.Key key.Out) p d n ∷ test ++ lay (tok.Sym sym.Semicolon) q d m ∷ [])))
-    assert_that : {d : ℕ} {e : ExprTree} (p n q m : ℕ) (test : List Laid) → IsTest d test e
-        → IsStmt d (lay (tok.Key key.Assert) p d n ∷ test ++ lay (tok.Sym sym.Semicolon) q d m ∷ []) (stmt.Assert e)
-        (plain (tokens_of (lay (tok.Key key.Assert) p d n ∷ test ++ lay (tok.Sym sym.Semicolon) q d m ∷ [])))
-    block : {d : ℕ} {all : List StmtTree} {inner : List Skel} (p n q m : ℕ) (items : List Laid) → IsItems (suc d) items all inner
-        → IsStmt d (lay (tok.Sym sym.OpenBrace) p d n ∷ items ++ lay (tok.Sym sym.CloseBrace) q (suc d) m ∷ []) (stmt.Block all)
-        (plain (tokens_of (lay (tok.Sym sym.OpenBrace) p d n ∷ [])) ++ inner ++ plain (tokens_of (lay (tok.Sym sym.CloseBrace) q (suc d) m ∷ [])))
-    marked : {d : ℕ} {m : Mark} {a : StmtTree} {inner : List Skel} (front body : List Laid) → IsMark d front m → IsStmt (suc d) body a inner
-        → IsStmt d (front ++ body) (stmt.Marked m a) (hole m.number m.place ∷ [])
+-- initial  =  ";" | assigned
+abbrev pub initial : Rule Value ExprTree
+initial = mapped (λ (u : Unit {0}). expr.Num (pos 0)) semicolon or assigned
 
-  -- what a block has between its braces
-  pub data IsItems : ℕ → List Laid → List StmtTree → List Skel → Type 0 where
-    none : {d : ℕ} → IsItems d [] [] []
-    statement : {d : ℕ} {s : StmtTree} {all : List StmtTree} {front others : List Skel} (first rest : List Laid)
-        → IsStmt d first s front → IsItems d rest all others → IsItems d (first ++ rest) (s ∷ all) (front ++ others)
-    declaration : {d : ℕ} {s : StmtTree} {all : List StmtTree} {others : List Skel} (first rest : List Laid)
-        → IsDecl d first s → IsItems d rest all others → IsItems d (first ++ rest) (s ∷ all) (plain (tokens_of first) ++ others)
-    marked_declaration : {d : ℕ} {m : Mark} {s : StmtTree} {all : List StmtTree} {others : List Skel} (front first rest : List Laid)
-        → IsMark d front m → IsDecl d first s → IsItems d rest all others
-        → IsItems d (front ++ first ++ rest) (stmt.Marked m s ∷ all) (hole m.number m.place ∷ others)
+-- declaration  =  "int" name initial
+abbrev pub declaration : Rule Value StmtTree
+declaration = preceded int_word (Sequence (λ x e. stmt.Declare x e) name initial)
 
--- the parameters of `main`, one or more
-pub data IsParams : List Laid → List Ident → Type 0 where
-  one : {p n q m : ℕ} (x : List ℕ) → IsParams (lay (tok.Key key.Int) p 0 n ∷ lay (tok.Name x) q 0 m ∷ []) (ident x q ∷ [])
-  more : {p n q m r k : ℕ} {rest : List Laid} {others : List Ident} (x : List ℕ) → IsParams rest others
-      → IsParams (lay (tok.Key key.Int) p 0 n ∷ lay (tok.Name x) q 0 m ∷ lay (tok.Sym sym.Comma) r 0 k ∷ rest) (ident x q ∷ others)
+-- skip  =  ";"
+abbrev pub skip : Rule Value StmtTree
+skip = mapped (λ (u : Unit {0}). stmt.Skip) semicolon
 
--- a program is `int main(PARAMS) { ITEMS }`
-pub data IsProgram : List Laid → List Ident → List StmtTree → List Skel → Type 0 where
-  program : {params : List Ident} {body : List StmtTree} {inner : List Skel} (p n q m r k s j t i u h : ℕ) (names items : List Laid)
-      → IsParams names params → IsItems 1 items body inner
-      → IsProgram (lay (tok.Key key.Int) p 0 n ∷ lay (tok.Key key.Main) q 0 m ∷ lay (tok.Sym sym.OpenParen) r 0 k ∷ names ++ lay (tok.Sym sym.CloseParen) s 0 j ∷ lay (tok.Sym sym.OpenBrace) t 0 i ∷ items ++ lay (tok.Sym sym.CloseBrace) u 1 h ∷ [])
-      params body
-      (plain (tokens_of (lay (tok.Key key.Int) p 0 n ∷ lay (tok.Key key.Main) q 0 m ∷ lay (tok.Sym sym.OpenParen) r 0 k ∷ names ++ lay (tok.Sym sym.CloseParen) s 0 j ∷ lay (tok.Sym sym.OpenBrace) t 0 i ∷ [])) ++ inner ++ plain (tokens_of (lay (tok.Sym sym.CloseBrace) u 1 h ∷ [])))
+-- braced  =  "{" block
+abbrev pub braced : Rule Value StmtTree
+braced = mapped (λ all. stmt.Block all) (nested Block open_brace)
+
+-- branch  =  "if" test statement [ "else" statement ]
+abbrev pub branch : Rule Value StmtTree
+branch = Sequence (λ (p : ExprTree × StmtTree) other. stmt.If p.0 p.1 other) (opening Statement (λ c s. (c, s)) (preceded if_word test)) (optional (nested Statement else_word))
+
+-- loop  =  "while" test statement
+abbrev pub loop : Rule Value StmtTree
+loop = opening Statement (λ c s. stmt.While c s) (preceded while_word test)
+
+-- returned  =  "return" ended
+abbrev pub returned : Rule Value StmtTree
+returned = mapped (λ e. stmt.Return e) (preceded return_word ended)
+
+-- output  =  "out" test ";"
+abbrev pub output : Rule Value StmtTree
+output = mapped (λ e. stmt.Out e) (preceded out_word (terminated test semicolon))
+
+-- assertion  =  "assert" test ";"
+abbrev pub assertion : Rule Value StmtTree
+assertion = mapped (λ e. stmt.Assert e) (preceded assert_word (terminated test semicolon))
+
+-- marked-statement  =  mark statement
+abbrev pub marked_statement : Rule Value StmtTree
+marked_statement = marked (opening Statement (λ m s. (m, s)) mark)
+
+-- assignment  =  name assigned
+abbrev pub assignment : Rule Value StmtTree
+assignment = Sequence (λ x e. stmt.Set x e) name assigned
+
+-- statement  =  skip | braced | branch | loop | returned | output | assertion | marked-statement | assignment
+abbrev pub statement : Rule Value StmtTree
+statement = skip or braced or branch or loop or returned or output or assertion or marked_statement or assignment
+
+-- marked-item  =  mark ( declaration | statement ); a marked declaration stands inside no construct
+abbrev pub marked_item : Rule Value StmtTree
+marked_item = marked (Construct Statement (λ m s. (m, s)) mark declaration)
+
+-- item  =  declaration | marked-item | statement
+abbrev pub item : Rule Value StmtTree
+item = declaration or marked_item or statement
+
+-- block  =  { item } "}"
+abbrev pub block : Rule Value (List StmtTree)
+block = terminated (Repetition item) close_brace
+
+-- the rule of each nonterminal
+abbrev pub table : Table Value
+table Operand = operand
+table Parenthesized = terminated expression close_paren
+table Choice = Sequence (λ a b. (a, b)) expression (preceded colon expression)
+table Statement = statement
+table Block = block
+
+-- parameter  =  "int" name
+abbrev pub parameter : Rule Value Ident
+parameter = preceded int_word name
+
+-- program  =  "int" "main" "(" parameter { "," parameter } ")" "{" block
+abbrev pub program : Rule Value (List Ident × List StmtTree)
+program =
+    preceded int_word (preceded main_word (preceded open_paren
+    (Sequence (λ params body. (params, body)) (separated parameter comma) (preceded close_paren (nested Block open_brace)))))

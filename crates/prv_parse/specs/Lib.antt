@@ -1,10 +1,11 @@
 pub mod Operators
-pub mod Texts
-pub mod Skeletons
+pub mod Places
 pub mod Trees
+pub mod Reader
+pub mod Nonterminals
+pub mod Terminals
 pub mod Grammar
 pub mod Refusals
-pub mod Reader
 pub mod Fixed
 pub mod Cursors
 pub mod Statements

@@ -4,7 +4,7 @@ use Rattle.prv_lex.specs.declared.token.Token.{Token}
 use Rattle.prv_parse.specs.Reader.{Out, Done, bind, ReadParams, params_with, ReadProgram}
 use Rattle.prv_parse.specs.Statements.{Reads}
 use Rattle.prv_parse.specs.declared.main_function.MainFunction.{MainFunction}
-use Rattle.prv_parse.specs.declared.skeleton.Skel.{Skel}
+use Rattle.prv_rule.specs.declared.skeleton.Skel.{Skel}
 use Rattle.prv_parse.specs.declared.tree.Ident.{Ident}
 use Rattle.prv_parse.specs.declared.stop.Stop.{Stop}
 use Rattle.prv_parse.specs.declared.stop.Stop.TheVariants as stop

@@ -1,4 +1,4 @@
--- A reader of the grammar as functions: what the code's inner calls come to. The grammar itself is said in `Grammar`.
+-- The readers of the grammar as functions, construct by construct: what the inner calls of the code come to. That they are the readers of the table is proved.
 use Rattle.std.specs.Prelude.{ℕ, zero, suc, ◌-◌, ◌==◌, nat_le, ◌&&◌, Bool, true, false, List, [], ◌∷◌, ◌++◌, length, take, Option, Some, None, pos, if◌then◌else◌}
 use Rattle.prv_model.specs.declared.limits.TheConstants.{MAX_OPEN, MAX_OPERATORS}
 use Rattle.prv_lex.specs.declared.token.Tok.{Tok}
@@ -9,10 +9,11 @@ use Rattle.prv_lex.specs.declared.token.Sym.TheVariants as sym
 use Rattle.prv_lex.specs.declared.token.Token.{Token}
 use Rattle.prv_model.specs.declared.op.UnOp.{UnOp}
 use Rattle.prv_model.specs.declared.op.BinOp.{BinOp}
-use Rattle.prv_parse.specs.Operators.{unary_of, binary_of, precedence}
-use Rattle.prv_parse.specs.Skeletons.{kept, plain, hole}
-use Rattle.prv_parse.specs.Grammar.{ident, mark_at}
-use Rattle.prv_parse.specs.declared.skeleton.Skel.{Skel}
+use Rattle.prv_rule.specs.Operators.{unary_of, binary_of}
+use Rattle.prv_parse.specs.Operators.{precedence}
+use Rattle.prv_rule.specs.Skeletons.{kept, plain, hole}
+use Rattle.prv_parse.specs.Places.{ident, mark_at}
+use Rattle.prv_rule.specs.declared.skeleton.Skel.{Skel}
 use Rattle.prv_parse.specs.declared.tree.Ident.{Ident}
 use Rattle.prv_parse.specs.declared.tree.Mark.{Mark}
 use Rattle.prv_parse.specs.declared.tree.ExprTree.{ExprTree}

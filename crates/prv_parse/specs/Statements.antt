@@ -3,7 +3,7 @@ use Rattle.std.specs.Prelude.{◌≡◌, ℕ, Bool, true, false, List, [], ◌�
 use Rattle.prv_lex.specs.declared.token.Token.{Token}
 use Rattle.prv_parse.specs.Reader.{Out, Done, Bad, Deep, Many, Part, ReadStmt, stmt_with, ReadItems, items_with, Named, ReadParams, params_with, Statement, is_int, declaration}
 use Rattle.prv_parse.specs.Cursors.{StopsBy}
-use Rattle.prv_parse.specs.declared.skeleton.Skel.{Skel}
+use Rattle.prv_rule.specs.declared.skeleton.Skel.{Skel}
 use Rattle.prv_parse.specs.declared.stop.Stop.{Stop}
 use Rattle.prv_parse.specs.declared.tree.Ident.{Ident}
 use Rattle.prv_parse.specs.declared.tree.ExprTree.{ExprTree}

@@ -1,3 +1,6 @@
+//! Blocks and declarations. A block's items are read one after the other up to its closing brace: a declaration
+//! stands right in a block, or behind one mark there, and everything else is a statement.
+
 ghost use Rattle.std.specs.Prelude.{◌≡◌, ◌+◌, ◌-◌, ◌<◌, ◌∷◌, drop, length};
 ghost use Rattle.prv_parse.specs.Reader.{statements, block as block_of, items as items_of, item_at, declaration as declaration_of, declared as declared_of};
 ghost use Rattle.prv_parse.specs.Cursors.{left};

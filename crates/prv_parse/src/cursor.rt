@@ -1,6 +1,9 @@
+//! The place of a recursive-descent parser among its tokens, with one token of lookahead. A step either goes over
+//! the next token or leaves the cursor at it, so that a stop is always at the token that it is about.
+
 ghost use Rattle.std.specs.Prelude.{◌≡◌, ◌<◌, ◌+◌, [], ◌∷◌, length, drop, MatchOption, OnSome, MatchResult, true, false};
 ghost use Rattle.prv_parse.specs.Reader.{expect, Done};
-ghost use Rattle.prv_parse.specs.Skeletons.{kept};
+ghost use Rattle.prv_rule.specs.Skeletons.{kept};
 ghost use Rattle.prv_parse.specs.Cursors.{left, StopsBy};
 ghost use Rattle.prv_parse.specs.Fixed.{is_fixed, head_is};
 
@@ -11,6 +14,7 @@ use prv_lex::Token;
 /// A place among the tokens of a file.
 #[derive(Drop)]
 pub struct Cursor<'t> {
+    /// All tokens of the file.
     pub tokens: &'t [Token],
     /// The index of the next token.
     pub at: usize,

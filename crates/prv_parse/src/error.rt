@@ -1,3 +1,5 @@
+//! What keeps tokens from being a program: the first place at which no program goes on, or the first past a limit.
+
 use thiserror::Error;
 
 /// What keeps tokens from being a program.

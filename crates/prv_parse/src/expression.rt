@@ -1,5 +1,9 @@
+//! Expressions, by precedence climbing: a level reads operands of the next tighter level and the operators of its
+//! own precedence between them, so operators of one precedence group to the left. What is nested is counted by
+//! `room`, and the operators of a full expression by `before`, so neither depth nor length is without bound.
+
 ghost use Rattle.std.specs.Prelude.{◌≡◌, ◌+◌, ◌-◌, ◌≤◌, ◌<◌, ◌∷◌, length, drop, MatchOption, OnOk, IfSome, Some};
-ghost use Rattle.prv_parse.specs.Operators.{unary_of};
+ghost use Rattle.prv_rule.specs.Operators.{unary_of};
 ghost use Rattle.prv_parse.specs.Reader.{readers, in_parens, with_unary, precedence_of, tail, choice_behind, chosen as chosen_in, expect, is_close_paren, is_colon, operator_of, head_operator};
 ghost use Rattle.prv_parse.specs.Cursors.{left as left_of, read_of, ReadsExpr, head_joined};
 
@@ -20,6 +24,7 @@ const LOOSEST: u32 = 10;
 #[derive(Drop)]
 pub struct ReadExpr {
     pub tree: ExprTree,
+    /// How many operators of the full expression stand before what follows, 0 to 256.
     pub before: u32,
 }
 

@@ -1,3 +1,5 @@
+//! The tokens that stand at a fixed place of a construct, as parentheses and reserved words, and the test for each.
+
 ghost use Rattle.std.specs.Prelude.{◌≡◌};
 ghost use Rattle.prv_parse.specs.Fixed.{is_fixed};
 

@@ -3,7 +3,7 @@
 ghost use Rattle.std.specs.Prelude.{◌≡◌, ◌⊎◌, ℕ, List};
 ghost use Rattle.prv_lex.specs.declared.token.Token.{Token};
 ghost use Rattle.prv_parse.specs.Refusals.{HasTree, IsSyntaxAt, IsDeepAt};
-ghost use Rattle.prv_parse.specs.declared.skeleton.Skel.{Skel};
+ghost use Rattle.prv_rule.specs.declared.skeleton.Skel.{Skel};
 ghost use Rattle.prv_parse.specs.declared.tree.Ident.{Ident};
 ghost use Rattle.prv_parse.specs.declared.tree.StmtTree.{StmtTree};
 

@@ -1,3 +1,5 @@
+//! The frame of a program: `int main`, its parameters in parentheses, and its block, with nothing behind it.
+
 ghost use Rattle.std.specs.Prelude.{◌≡◌};
 ghost use Rattle.prv_parse.specs.Reader.{param as param_of, params as params_of, program as program_of};
 ghost use Rattle.prv_parse.specs.Cursors.{left};
@@ -16,7 +18,9 @@ use std::alloc::Global;
 /// The parameters and the body of `main`.
 #[derive(Drop)]
 pub struct MainFunction {
+    /// One or more.
     pub params: Items<Ident>,
+    /// What stands in its braces.
     pub body: Items<StmtTree>,
 }
 

@@ -1,16 +1,19 @@
+//! Marks: `@` and a number. The tokens of what a mark stands before are taken out of the skeleton again, and one
+//! hole is put in their place.
+
 ghost use Rattle.std.specs.Prelude.{◌≡◌, ◌+◌, ◌-◌, ◌<◌, ◌∷◌, ◌++◌, drop, length, OnOk, MatchResult, [], ◌≤◌, take};
 ghost use Rattle.prv_parse.specs.Reader.{mark_behind, Done};
 ghost use Rattle.prv_parse.specs.Cursors.{left, StopsBy};
-ghost use Rattle.prv_parse.specs.Skeletons.{kept, hole};
+ghost use Rattle.prv_rule.specs.Skeletons.{kept, hole};
 ghost use Rattle.prv_parse.specs.declared.tree.StmtTree.TheVariants.{Marked};
 ghost use Rattle.prv_parse.specs.declared.stop.Stop.TheVariants.{Memory};
 
 use crate::cursor::Cursor;
 use crate::reader::Reader;
-use crate::skeleton::{Skel, SkelItem};
 use crate::stop::Stop;
 use crate::tree::{Mark, StmtTree};
 use prv_lex::{Tok, Token};
+use prv_rule::{Skel, SkelItem};
 use sqlite_items::Boxed;
 use std::alloc::{AllocError, Global};
 

@@ -1,5 +1,8 @@
+//! Which symbols are operators, and how tightly each binds: C's table, for the parser's levels.
+
 ghost use Rattle.std.specs.Prelude.{◌≡◌};
-ghost use Rattle.prv_parse.specs.Operators.{unary_of, binary_of, precedence as precedence_of};
+ghost use Rattle.prv_rule.specs.Operators.{unary_of, binary_of};
+ghost use Rattle.prv_parse.specs.Operators.{precedence as precedence_of};
 
 use prv_lex::Sym;
 use prv_model::{BinOp, UnOp};

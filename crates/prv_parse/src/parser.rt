@@ -1,7 +1,11 @@
+//! The entry of the parser: tokens in, a tree or the first refusal out. The contract is over the grammar's table
+//! of rules, which says what a program is without the parser.
+
 ghost use Rattle.std.specs.Prelude.{◌≡◌, ◌<◌, ◌^◌, ℕ, List, length, drop, IfOk, IsErrOf, MatchResult, ◌⊎◌};
-ghost use Rattle.prv_parse.specs.Refusals.{HasTree, IsSyntaxAt, IsDeepAt, place_of};
+ghost use Rattle.prv_rule.specs.Refusals.{place_of};
+ghost use Rattle.prv_parse.specs.Refusals.{HasTree, IsSyntaxAt, IsDeepAt};
 ghost use Rattle.prv_parse.specs.MainFunctions.{refusal_of};
-ghost use Rattle.prv_parse.specs.declared.skeleton.Skel.{Skel as SkelIs};
+ghost use Rattle.prv_rule.specs.declared.skeleton.Skel.{Skel as SkelIs};
 ghost use Rattle.prv_parse.specs.declared.tree.Ident.{Ident as IdentIs};
 ghost use Rattle.prv_parse.specs.declared.tree.StmtTree.{StmtTree as StmtIs};
 

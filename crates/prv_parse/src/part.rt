@@ -1,16 +1,19 @@
+//! What statements are made of: full expressions, in parentheses or up to a `;`, and names. Each token that is gone
+//! over here is put into the skeleton.
+
 ghost use Rattle.std.specs.Prelude.{◌≡◌, [], ◌∷◌, ◌++◌, OnOk, IfOk, drop};
 ghost use Rattle.prv_parse.specs.Reader.{read, expect, full, test as test_of, ended as ended_of, assigned as assigned_of, name as name_of};
 ghost use Rattle.prv_parse.specs.Cursors.{left};
 ghost use Rattle.prv_parse.specs.Fixed.{is_fixed};
-ghost use Rattle.prv_parse.specs.Skeletons.{kept, plain};
+ghost use Rattle.prv_rule.specs.Skeletons.{kept, plain};
 ghost use Rattle.prv_parse.specs.Statements.{ReadsFixed, ReadsPart, ReadsName};
 
 use crate::fixed::Fixed;
 use crate::reader::Reader;
-use crate::skeleton::{Skel, SkelItem};
 use crate::stop::Stop;
 use crate::tree::{ExprTree, Ident};
 use prv_lex::{Tok, Token};
+use prv_rule::{Skel, SkelItem};
 use std::alloc::{AllocError, Global};
 
 /// The same token once more.

@@ -1,3 +1,6 @@
+//! Statements, each chosen by its first token alone (the grammar is LL(1), but for `else`, which goes with the
+//! nearest `if`).
+
 ghost use Rattle.std.specs.Prelude.{◌≡◌, ◌+◌, ◌-◌, ◌<◌, ◌∷◌, drop, length};
 ghost use Rattle.prv_parse.specs.Reader.{statements, statement_at, block as block_of};
 ghost use Rattle.prv_parse.specs.Cursors.{left};

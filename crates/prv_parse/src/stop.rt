@@ -1,3 +1,5 @@
+//! Why the parser stops. The place isn't part of it: the cursor stands at the token in question.
+
 use std::alloc::{AllocError, AllocFailed};
 
 /// Why the reader stops; it stands at the token in question then.

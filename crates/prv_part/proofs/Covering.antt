@@ -25,7 +25,7 @@ and-true false = refl
 holds-more : (region : List Term) (t : Term) (x : List ℤ) → holds (region ++ t ∷ []) x ≡ (holds region x && not (is_zero (term_value t x)))
 holds-more region t x = holds-append region (t ∷ []) x ∙ ap (λ (c : Bool). holds region x && c) (and-true _)
 
-holds-less : (region : List Term) (t : Term) (x : List ℤ) → holds (region ++ negation t ∷ []) x ≡ (holds region x && is_zero (term_value t x))
+pub holds-less : (region : List Term) (t : Term) (x : List ℤ) → holds (region ++ negation t ∷ []) x ≡ (holds region x && is_zero (term_value t x))
 holds-less region t x = holds-more region (negation t) x ∙ ap (λ (c : Bool). holds region x && c) (negation-nonzero t x)
 
 either : (h z : Bool) → one_if (h && not z) + one_if (h && z) ≡ one_if h

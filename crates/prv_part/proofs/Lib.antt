@@ -1,6 +1,7 @@
 pub mod Negations
 pub mod Equalities
 pub mod Covering
+pub mod Holding
 pub mod Partitions
 pub mod Overs
 pub mod Truths

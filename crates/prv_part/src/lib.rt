@@ -4,6 +4,7 @@
 //! a part claims holds of every input in it.
 #![tactic(auto)]
 
+mod holder;
 mod laws;
 mod part;
 mod settlement;

@@ -1,3 +1,7 @@
+//! The settlement of an entry: what its region is found to be, with the parts that take the entry's place.
+//!
+//! The type keeps that it is true, so whoever holds a settlement needs no proof of it: a board that applies
+//! one stays legal. There is a constructor for each shape, which asks for the truth as its condition.
 ghost use Rattle.std.specs.Prelude.{◌≡◌, Ok, Some, None};
 ghost use Rattle.std.specs.Arc.{arc_value};
 ghost use Rattle.std.specs.Option.{option_copied};
@@ -17,12 +21,19 @@ use std::sync::Arc;
 /// input in it.
 #[derive(Drop)]
 pub struct Settlement {
+    /// The pair that it is about.
     pair: Arc<Pair>,
+    /// The number of the entry that it settles.
     entry: u32,
+    /// The entry's region.
     region: Region,
+    /// The input that both versions were run on, if they were run.
     member: Option<Input>,
+    /// What the region is found to be.
     shape: Shape,
+    /// The parts that the region is cut into, in the order of the numbers that they get on a board.
     parts: Items<Part>,
+    /// The size that a board counts for it: the numbers of its log and the nodes of its pool.
     numbers: u64,
 }
 

@@ -1,3 +1,5 @@
+//! What the region of an entry can be found to be. Each shape has its own list of parts.
+
 /// What a region is found to be.
 #[derive(Clone, Copy, Debug, PartialEq, Eq)]
 pub enum Shape {

@@ -1,3 +1,4 @@
+//! What no clause says: that a settlement is made where there is memory, and that settlements may cross threads.
 ghost use Rattle.std.specs.Prelude.{◌≡◌, [], ◌∷◌, IfOk, IfSome};
 ghost use Rattle.prv_model.specs.declared.term.Term.TheVariants.{Num};
 ghost use Rattle.prv_part.specs.Parts.{unmarked};
@@ -89,7 +90,10 @@ fn reads(settlement: &Settlement, shape: Shape, entry: u32, numbers: u64) -> boo
         && settlement.parts().len() == 1
 }
 
-/// An empty region, and one of which nothing is decided.
+/// What may be handed to another thread, and shared between threads.
+fn may_cross<T: Send + Sync>(_: &T) {}
+
+/// An empty region, and one of which nothing is decided, with a copy of its part.
 #[test]
 fn settled(rt: HostRuntime) -> Result<(), Fail> {
     let alloc = rt.alloc();
@@ -100,6 +104,11 @@ fn settled(rt: HostRuntime) -> Result<(), Fail> {
         assert!(rt; reads(&settlement, Shape::Empty, 3, 7), "empty");
         let settlement = stuck(alloc, pair)?;
         assert!(rt; reads(&settlement, Shape::Stuck, 5, 9), "stuck");
+        may_cross(&settlement);
+        for part in settlement.parts() {
+            let copied = part.copy(alloc)?;
+            assert!(rt; copied.region.roots().len() == 1, "copied");
+        }
     }
     Ok(())
 }

@@ -68,10 +68,10 @@ waits-more : (numbers : List (Option ℕ)) (limit : ℕ) (waiting : List ℕ) (n
 waits-more numbers limit [] n m w less e = (w.0, w.1, (less, e, tt))
 waits-more numbers limit (k ∷ waiting) n m w less e = (w.0, w.1, waits-more numbers k waiting n m w.2 less e)
 
-number-set_other : (numbers : List (Option ℕ)) (n k : ℕ) (o : Option ℕ) → k ≢ n → number_at (set numbers n o) k ≡ number_at numbers k
+pub number-set_other : (numbers : List (Option ℕ)) (n k : ℕ) (o : Option ℕ) → k ≢ n → number_at (set numbers n o) k ≡ number_at numbers k
 number-set_other numbers n k o h = unwrap_or-slice_get (set numbers n o) k None ∙ get_or-set_other numbers n k o None h ∙ sym (unwrap_or-slice_get numbers k None)
 
-number-set_same : (numbers : List (Option ℕ)) (n : ℕ) (o : Option ℕ) → n < length numbers → number_at (set numbers n o) n ≡ o
+pub number-set_same : (numbers : List (Option ℕ)) (n : ℕ) (o : Option ℕ) → n < length numbers → number_at (set numbers n o) n ≡ o
 number-set_same numbers n o h = unwrap_or-slice_get (set numbers n o) n None ∙ get_or-set_same numbers n o None h
 
 waits-less : (numbers : List (Option ℕ)) (limit : ℕ) (waiting : List ℕ) (n : ℕ) (o : Option ℕ) → AreWaiting numbers limit (waiting ++ n ∷ []) → AreWaiting (set numbers n o) limit waiting

@@ -10,7 +10,7 @@ use Rattle.std.specs.Cmp.{signed_Decides}
 use Rattle.prv_model.specs.Words.{is_zero, flag}
 use Rattle.prv_model.specs.Terms.{total}
 use Rattle.prv_model.specs.TermOrder.{term_cmp, same_term, op_rank}
-use Rattle.prv_model.proofs.OrderLemmas.{term_cmp_total, term_cmp-out, same_term-same}
+use Rattle.prv_model.proofs.OrderLemmas.{term_cmp_total, term_cmp-out, term_cmp-equal, same_term-same}
 use Rattle.prv_model.specs.declared.op.TermOp.{TermOp}
 use Rattle.prv_model.specs.declared.op.TermOp.TheVariants.{Add, Sub, Mul, Div, Rem, Shl, Shr, And, Or, Xor, Lt, Le, Eq, Ne}
 use Rattle.prv_model.specs.declared.term.Term.{Term, out-Term}
@@ -545,6 +545,32 @@ negated-twice =
     (λ o a b _ _ e t. op-twice o a b e t)
     (λ s a b _ _ _ e t. twice-negated (Pick s a b) (ap Folding.node_number (out-Pick s a b)) t (negation-by (Pick s a b) _ (out-Pick s a b)))
     (λ n e t. ap negation (negated-Num n) ∙ negated-Num _ ∙ ap Num (one-of n (sym (truth-Num n) ∙ t)))
+
+-- ---- operators that stand in a table
+
+-- an operator that is folded is its own folding
+pub folded-is : (op : TermOp) (a b : Term) → is_folded (Op op a b) ≡ true → folded op a b ≡ Op op a b
+folded-is op a b e = settled-is op a b (settles op a b (folded-parts op a b e).2)
+
+-- so is one whose operands may be exchanged, of these in the other order
+pub turned-is : (op : TermOp) (a b : Term) → exchanges op ≡ true → is_folded (Op op b a) ≡ true → folded op a b ≡ Op op b a
+turned-is op a b x e = by (term_cmp b a) refl
+  where
+    s : Settled op b a
+    s = (folded-parts op b a e).2
+
+    by : (o : Ordering) → term_cmp b a ≡ o → folded op a b ≡ Op op b a
+    by Less d =
+        let order : are_exchanged op a b ≡ true = λ i. x i && is_gt ((term_cmp_total.antisymm a b ∙ ap ordering_reverse d) i) in
+        (λ i. first_of (numbers-turned op op b a s.numbers i ∷ []) (if order i then first_of (s.neutral i ∷ s.decide i ∷ s.same i ∷ s.truths i ∷ s.null i ∷ []) (Op op b a) else in_order negation op a b))
+    by Equal d =
+        let same : a ≡ b = sym ((term_cmp-equal b a).0 d) in
+        (λ i. folded op (same i) (sym same i)) ∙ settled-is op b a (settles op b a s)
+    by Greater d = let greater : true ≡ false = sym (λ i. x i && is_gt (d i)) ∙ s.order in cc
+
+-- `x != y`, of the operands of an equation that is folded
+pub unequal-of-equation : (a b : Term) → is_folded (Op Eq a b) ≡ true → unequal a b ≡ (if is_truth_shaped a && is_number (pos 0) b then a else Op Ne a b)
+unequal-of-equation a b e = unequal-of a b (folded-parts Eq a b e).2
 
 -- ---- truths
 

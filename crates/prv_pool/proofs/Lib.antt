@@ -7,7 +7,9 @@ pub mod KeyLemmas
 pub mod FoldLemmas
 pub mod MakeLemmas
 pub mod FoldedLemmas
+pub mod FoundLemmas
 pub mod FoldLaws
 pub mod ValueLemmas
 pub mod NumberLemmas
 pub mod CopyLemmas
+pub mod PairLemmas

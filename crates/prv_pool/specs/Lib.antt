@@ -4,6 +4,8 @@ pub mod Nodes
 pub mod Folds
 pub mod Steps
 pub mod Values
+pub mod Zeros
 pub mod Regions
 pub mod Numbers
+pub mod Pairs
 pub mod Copies

@@ -1,5 +1,5 @@
 -- The nodes of one table by their numbers in another.
-use Rattle.std.specs.Prelude.{◌≡◌, ℕ, ◌<◌, true, false, List, length, Option, Some, None, unwrap_or, slice_get}
+use Rattle.std.specs.Prelude.{◌≡◌, ℕ, ◌<◌, true, List, length, Option, Some, None, unwrap_or, slice_get}
 use Rattle.prv_model.specs.declared.term.Term.{Term}
 use Rattle.prv_pool.specs.Tables.{has_term, add_term, term_at}
 use Rattle.prv_pool.specs.Nodes.{node_term, AreBelow}
@@ -11,15 +11,6 @@ use Rattle.prv_pool.specs.declared.numbers.Renumbering.TheVariants.{Ready, Lacks
 -- the number that a node has, if it has one
 abbrev pub number_at : List (Option ℕ) → ℕ → Option ℕ
 number_at numbers n = unwrap_or (slice_get numbers n) None
-
--- a term's number in a list, and none where the list hasn't got it
-abbrev pub IsNumber : List Term → Term → Option ℕ → Type 0
-IsNumber terms t (Some n) = slice_get terms n ≡ Some t
-IsNumber terms t None = has_term terms t ≡ false
-
--- each of the first n terms of one list has its number in another
-abbrev pub AreNumbers : List Term → List Term → List (Option ℕ) → ℕ → Type 0
-AreNumbers from into numbers n = (k : ℕ) → k < n → IsNumber into (term_at from k) (number_at numbers k)
 
 -- the numbers that nodes of one list have are those of their terms in another
 pub record Stands (from into : List Term) (numbers : List (Option ℕ)) : Type 0 where

@@ -1,3 +1,4 @@
+//! Why a pool makes no term: it is full, or memory ran out.
 use std::alloc::AllocError;
 use thiserror::Error;
 

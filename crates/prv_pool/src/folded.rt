@@ -1,3 +1,4 @@
+//! What folding an operator over its operands comes to: an operand, a number, or a node that is to be made.
 use crate::node::Node;
 use prv_model::TermOp;
 

@@ -1,9 +1,11 @@
-//! The rules of folding, on nodes. None of them makes a node.
-ghost use Rattle.std.specs.Prelude.{◌≡◌, ◌<◌, length, pos, IfSome};
+//! The rules of folding, on nodes: what term an operator, a choice, a negation or a truth is simplified to
+//! before its node is made. None of the rules makes a node, so that a table gets no term but those that are
+//! asked for.
+ghost use Rattle.std.specs.Prelude.{◌≡◌, ◌<◌, ◌&&◌, length, pos, IfSome, if◌then◌else◌};
 ghost use Rattle.std.specs.Option.{option_map};
 ghost use Rattle.std.specs.Ordering.{is_gt};
 ghost use Rattle.prv_model.specs.TermOrder.{term_cmp, same_term};
-ghost use Rattle.prv_pool.specs.Folding.{folded, folded_pick, folded_by, negation, truth, unequal, as_number, is_number, is_comparison, is_truth_shaped, exchanges as exchanges_of, are_exchanged as are_exchanged_of, is_neutral as is_neutral_of, decided as decided_of, beside_neutral, beside_decided, twice as twice_of, on_numbers as on_numbers_of, on_one_twice as on_one_twice_of, are_opposite, on_truths as on_truths_of, beside_zero as beside_zero_of, in_order as in_order_of};
+ghost use Rattle.prv_pool.specs.Folding.{folded, folded_pick, folded_by, negation, truth, as_number, is_number, is_comparison, is_truth_shaped, exchanges as exchanges_of, are_exchanged as are_exchanged_of, is_neutral as is_neutral_of, decided as decided_of, beside_neutral, beside_decided, twice as twice_of, on_numbers as on_numbers_of, on_one_twice as on_one_twice_of, are_opposite, on_truths as on_truths_of, beside_zero as beside_zero_of, in_order as in_order_of};
 ghost use Rattle.prv_pool.specs.Tables.{IsTable, term_at};
 ghost use Rattle.prv_model.specs.declared.term.Term.{Term};
 ghost use Rattle.prv_model.specs.declared.term.Term.TheVariants.{Op, Num};
@@ -17,6 +19,9 @@ use std::cmp::Ordering;
 
 impl Pool {
     /// An operator on two nodes.
+    ///
+    /// Whether operands are to be exchanged is told by going down both, which takes time on deep terms. An
+    /// operator that stands in the table has its operands in their order, so it is looked up before.
     pub(crate) fn fold(&self, op: TermOp, a: u32, b: u32) -> Folded
         requires first { a < length self.now.terms }
         requires second { b < length self.now.terms }
@@ -24,6 +29,10 @@ impl Pool {
         ensures over { IsOver (length self.now.terms) result }
         ensures table { IsTable self.now }
     {
+        self.keeps_a_table();
+        if let Some(there) = self.find_exchangeable(op, a, b) {
+            return Folded::Known(there);
+        }
         if let Some(value) = self.on_numbers(op, a, b) {
             return value;
         }
@@ -31,6 +40,22 @@ impl Pool {
             self.in_order(op, b, a)
         } else {
             self.in_order(op, a, b)
+        }
+    }
+
+    /// The node of an operator whose operands may be exchanged, where it stands in the table in either order.
+    fn find_exchangeable(&self, op: TermOp, a: u32, b: u32) -> Option<u32>
+        requires first { a < length self.now.terms }
+        requires second { b < length self.now.terms }
+        ensures value { IfSome result (λ n. term_at self.now.terms n ≡ folded op (term_at self.now.terms a) (term_at self.now.terms b)) }
+        ensures within { IfSome result (λ n. n < length self.now.terms) }
+    {
+        if !exchanges(op) {
+            return None;
+        }
+        match self.find(Node::Op(op, a, b)) {
+            Some(there) => Some(there),
+            None => self.find(Node::Op(op, b, a)),
         }
     }
 
@@ -80,16 +105,32 @@ impl Pool {
         requires first { x < length self.now.terms }
         requires second { y < length self.now.terms }
         requires is { term_at self.now.terms a ≡ Op op (term_at self.now.terms x) (term_at self.now.terms y) }
+        requires table { IsTable self.now }
         ensures value { folded_term self.now.terms result ≡ negation (term_at self.now.terms a) }
         ensures over { IsOver (length self.now.terms) result }
     {
         match op {
             TermOp::Lt => Folded::New(Node::Op(TermOp::Le, y, x)),
             TermOp::Le => Folded::New(Node::Op(TermOp::Lt, y, x)),
-            TermOp::Eq => self.unequal(x, y),
+            TermOp::Eq => self.unequal_in_order(x, y),
             TermOp::Ne => Folded::New(Node::Op(TermOp::Eq, x, y)),
             _ => Folded::WithZero(TermOp::Eq, a),
         }
+    }
+
+    /// `x != y` of the operands of an equation that stands in the table, so that they are in their order.
+    fn unequal_in_order(&self, x: u32, y: u32) -> Folded
+        requires first { x < length self.now.terms }
+        requires second { y < length self.now.terms }
+        ensures value { folded_term self.now.terms result
+            ≡ (if is_truth_shaped (term_at self.now.terms x) && is_number (pos 0) (term_at self.now.terms y) then term_at self.now.terms x
+            else Op TermOp.Ne (term_at self.now.terms x) (term_at self.now.terms y)) }
+        ensures over { IsOver (length self.now.terms) result }
+    {
+        if self.is_truth(x) && self.is_number(0, y) {
+            return Folded::Known(x);
+        }
+        Folded::New(Node::Op(TermOp::Ne, x, y))
     }
 
     /// The truth of a node.
@@ -291,38 +332,6 @@ impl Pool {
             Some(zero) => self.is_node(n, Node::Op(op, k, zero)),
             None => false,
         }
-    }
-
-    /// `a != b`, by its own rules.
-    fn unequal(&self, a: u32, b: u32) -> Folded
-        requires first { a < length self.now.terms }
-        requires second { b < length self.now.terms }
-        ensures value { folded_term self.now.terms result ≡ unequal (term_at self.now.terms a) (term_at self.now.terms b) }
-        ensures over { IsOver (length self.now.terms) result }
-    {
-        if let Some(answer) = self.on_numbers(TermOp::Ne, a, b) {
-            return answer;
-        }
-        if self.are_exchanged(TermOp::Ne, a, b) {
-            self.unequal_in_order(b, a)
-        } else {
-            self.unequal_in_order(a, b)
-        }
-    }
-
-    fn unequal_in_order(&self, a: u32, b: u32) -> Folded
-        requires first { a < length self.now.terms }
-        requires second { b < length self.now.terms }
-        ensures value { folded_term self.now.terms result ≡ in_order_of (λ t. t) TermOp.Ne (term_at self.now.terms a) (term_at self.now.terms b) }
-        ensures over { IsOver (length self.now.terms) result }
-    {
-        if self.same(a, b) {
-            return Folded::New(Node::Num(0));
-        }
-        if self.is_truth(a) && self.is_number(0, b) {
-            return Folded::Known(a);
-        }
-        Folded::New(Node::Op(TermOp::Ne, a, b))
     }
 
     /// An operator on one operand twice.

@@ -1,10 +1,15 @@
-//! Whether a region holds an input, by one pass over nodes.
-ghost use Rattle.std.specs.Prelude.{◌≡◌, ℕ, ◌<◌, ◌≤◌, not, length, map, All, OnOk};
-ghost use Rattle.std.specs.List.{list_all};
+//! Which inputs a region holds: one pass over the nodes of its table gives each of them its value on an
+//! input, since operands stand before their node; then the terms of the region are looked up in turn. The
+//! first of them that is 0 says more than that the region does not hold the input: where a region is cut by
+//! its literals one after the other, it names the part in which the input lies.
+ghost use Rattle.std.specs.Prelude.{◌≡◌, ℕ, ◌<◌, ◌≤◌, true, length, map, All, OnOk};
+ghost use Rattle.std.specs.List.{position};
+ghost use Rattle.std.specs.Option.{MatchOption};
 ghost use Rattle.prv_model.specs.Words.{is_zero};
 ghost use Rattle.prv_model.specs.Terms.{term_value, holds as holds_of};
 ghost use Rattle.prv_pool.specs.Tables.{term_at};
 ghost use Rattle.prv_pool.specs.Values.{node_value as node_value_of, value_at as value_at_of};
+ghost use Rattle.prv_pool.specs.Zeros.{IsFirstZero};
 
 use crate::node::Node;
 use crate::pool::Pool;
@@ -17,6 +22,7 @@ use std::marker::Model;
 /// Room for one value of each node of a pool. It is seen as the count of values.
 #[derive(Debug, Drop)]
 pub struct Scratch {
+    /// The value of each node in the latest evaluation, by the node's number.
     values: Vec<i32>,
 }
 
@@ -81,23 +87,24 @@ impl Pool {
         ensures value { result ≡ holds_of (map (term_at self.now.terms) cond.now) input.now }
         ensures room { scratch.new ≡ scratch.old }
     {
-        self.are_nonzero_at(cond.roots(), input, scratch)
+        self.first_zero_of(cond.roots(), input, scratch).is_none()
     }
 
-    /// Whether each of some nodes is nonzero on the input, by one pass over the nodes.
-    fn are_nonzero_at(&self, roots: &[u32], input: &Input, scratch: &mut Scratch) -> bool
+    /// The place of the first of some nodes that is 0 on the input, by one pass over the nodes.
+    fn first_zero_of(&self, roots: &[u32], input: &Input, scratch: &mut Scratch) -> Option<usize>
         requires roots { All (λ n. n < length self.now.terms) roots.now }
         requires reserved { length self.now.terms ≤ scratch.old }
-        ensures value { result ≡ holds_of (map (term_at self.now.terms) roots.now) input.now }
+        ensures place { MatchOption result (holds_of (map (term_at self.now.terms) roots.now) input.now ≡ true)
+            (IsFirstZero (map (term_at self.now.terms) roots.now) input.now) }
         ensures room { scratch.new ≡ scratch.old }
     {
         let count = self.end_of(roots);
         evaluate(self, count, input.as_slice(), &mut scratch.values);
-        are_nonzero(roots, scratch.values.as_slice())
+        first_zero_at(roots, scratch.values.as_slice())
     }
 
     /// The number behind the greatest of some nodes, and 0 where there is none.
-    fn end_of(&self, nodes: &[u32]) -> u32
+    pub(crate) fn end_of(&self, nodes: &[u32]) -> u32
         requires { All (λ n. n < length self.now.terms) nodes.now }
         ensures within { result ≤ length self.now.terms }
         ensures above { All (λ n. n < result) nodes.now }
@@ -121,8 +128,20 @@ impl Region {
         ensures value { result ≡ holds_of self.now input.now }
         ensures room { scratch.new ≡ scratch.old }
     {
+        self.first_zero(input, scratch).is_none()
+    }
+
+    /// The place of the first of the region's terms that is 0 on an input; none where the region holds it.
+    ///
+    /// It is one pass over the nodes of its pool and one over the terms, and takes no memory. Conditions that
+    /// go on from one list of terms, each with the negation of the next one behind it, are asked at once so.
+    pub fn first_zero(&self, input: &Input, scratch: &mut Scratch) -> Option<usize>
+        requires reserved { MAX_REGION_NODES ≤ scratch.old }
+        ensures place { MatchOption result (holds_of self.now input.now ≡ true) (IsFirstZero self.now input.now) }
+        ensures room { scratch.new ≡ scratch.old }
+    {
         let parts = self.parts();
-        parts.pool.are_nonzero_at(parts.roots, input, scratch)
+        parts.pool.first_zero_of(parts.roots, input, scratch)
     }
 }
 
@@ -164,9 +183,9 @@ fn value_at(values: &[i32], n: u32) -> i32
     at(values, n as usize).copied().unwrap_or(0)
 }
 
-/// Whether the value of each node is nonzero.
-fn are_nonzero(nodes: &[u32], values: &[i32]) -> bool
-    ensures { result ≡ list_all (λ n. not (is_zero (value_at_of values.now n))) nodes.now }
+/// The place of the first of some nodes whose value is 0.
+fn first_zero_at(nodes: &[u32], values: &[i32]) -> Option<usize>
+    ensures { result ≡ position (λ n. is_zero (value_at_of values.now n)) nodes.now }
 {
-    nodes.iter().all(|n| value_at(values, *n) != 0)
+    nodes.iter().position(|n| value_at(values, *n) == 0)
 }

@@ -1,3 +1,4 @@
+//! Nodes: terms whose operands are numbers of other nodes, so that a shared term stands once.
 ghost use Rattle.std.specs.Prelude.{◌≡◌, pos};
 ghost use Rattle.std.specs.Option.{option_map};
 ghost use Rattle.prv_model.specs.Terms.{total as total_of};

@@ -1,3 +1,4 @@
+//! The nodes of a pool, each once, under the numbers in which they were added.
 ghost use Rattle.std.specs.Prelude.{◌≡◌, ◌≢◌, ℕ, ◌<◌, ◌^◌, [], ◌∷◌, ◌++◌, length, take, Some, slice_get, OnOk, OnErr, IfSome, IfNone};
 ghost use Rattle.prv_pool.specs.Nodes.{node_at, truth_at, AreDistinct};
 

@@ -1,3 +1,4 @@
+//! Pools: terms as nodes of one table, folded as they are made.
 ghost use Rattle.std.specs.Prelude.{◌≡◌, ◌↔◌, ℕ, ◌<◌, ◌≤◌, true, false, [], ◌∷◌, ◌++◌, length, take, pos, Some, Err, slice_get, IfOk, OnOk, OnErr, IfSome, IfNone};
 ghost use Rattle.prv_model.specs.TermOrder.{same_term};
 ghost use Rattle.prv_model.specs.declared.term.Term.TheVariants as term;

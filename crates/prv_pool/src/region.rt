@@ -1,6 +1,7 @@
+//! Regions: conditions over one shared pool.
 ghost use Rattle.std.specs.Prelude.{◌≡◌, ℕ, ◌<◌, ◌≤◌, List, length, map, All, IfOk};
 ghost use Rattle.std.specs.Arc.{arc_value};
-ghost use Rattle.prv_pool.specs.Tables.{Table, AreAt, term_at};
+ghost use Rattle.prv_pool.specs.Tables.{Table, IsTable, AreAt, term_at};
 
 use crate::pool::Pool;
 use std::alloc::AllocError;
@@ -110,12 +111,14 @@ impl Region {
         self.cond.roots()
     }
 
-    /// The pool that the terms stand in, and their numbers there.
+    /// The pool that the terms stand in, and their numbers there, together: which terms they are.
     pub fn parts(&self) -> Parts<'_>
         ensures value { self.now ≡ map (term_at result.pool.now.terms) result.roots.now }
         ensures within { All (λ n. n < length result.pool.now.terms) result.roots.now }
+        ensures table { IsTable result.pool.now }
         ensures few { length result.pool.now.terms ≤ MAX_REGION_NODES }
     {
+        self.pool.keeps_a_table();
         Parts {
             pool: &self.pool,
             roots: self.cond.roots(),

@@ -1,3 +1,4 @@
+//! Which rule of folding applies, and what it just misses, row by row.
 ghost use Rattle.std.specs.Prelude.{◌<◌, length, All, IfOk};
 
 use crate::{Cond, MAX_REGION_NODES, Node, Pool, PoolError, Region, Scratch, same_region};

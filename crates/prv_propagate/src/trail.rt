@@ -19,17 +19,24 @@ pub const NO_REASON: u32 = u32::MAX;
 /// A literal that became true, and the number of the clause that implied it, or [`NO_REASON`].
 #[derive(Clone, Copy, Debug)]
 pub struct Step {
+    /// The literal.
     pub lit: Lit,
+    /// The number of the clause, or [`NO_REASON`].
     pub reason: u32,
 }
 
 /// The true literals as a trail and a table, with the places of the decisions.
 #[derive(Debug, Drop)]
 pub struct Trail {
+    /// How many variables there are.
     vars: u32,
+    /// Under each literal whether it is true.
     table: Vec<bool>,
+    /// The true literals with their reasons, in the order in which they became true.
     steps: Vec<Step>,
+    /// The places of the decisions among the steps.
     limits: Vec<usize>,
+    /// Under each variable where it was last put among the steps.
     positions: Vec<u32>,
 }
 

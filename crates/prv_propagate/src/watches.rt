@@ -12,7 +12,9 @@ use std::marker::Model;
 /// The two literals of a clause that are watched.
 #[derive(Clone, Copy, Debug)]
 pub struct Pair {
+    /// One of them.
     pub first: Lit,
+    /// The other, which differs from it unless the clause has but one literal.
     pub second: Lit,
 }
 
@@ -20,13 +22,16 @@ pub struct Pair {
 /// looked at.
 #[derive(Clone, Copy, Debug)]
 pub struct Watch {
+    /// The number of the clause.
     pub clause: u32,
+    /// The other literal.
     pub blocker: Lit,
 }
 
 /// A list of watches.
 #[derive(Debug, Drop)]
 pub struct WatchList {
+    /// The watches, in no order.
     items: Vec<Watch>,
 }
 
@@ -80,7 +85,9 @@ impl WatchList {
 /// The pairs by clause, and the watch lists by literal.
 #[derive(Debug, Drop)]
 pub struct Watches {
+    /// Under each clause's number the literals that it is watched by.
     pairs: Vec<Pair>,
+    /// Under each literal the clauses that are looked at once it is false; some may be stale.
     lists: Vec<WatchList>,
 }
 

@@ -1,3 +1,4 @@
+//! The record of a settlement as it is written and rechecked.
 use prv_check::{Line, Log};
 use prv_model::{Input, Reason};
 use prv_part::Shape;

@@ -1,4 +1,6 @@
-ghost use Rattle.std.specs.Prelude.{◌<◌, length};
+//! What a row of the table asks, by its first word, and the call that answers it.
+ghost use Rattle.std.specs.Prelude.{◌<◌, ◌≤◌, length};
+ghost use Rattle.prv_settle.specs.declared.limits.TheConstants.{MAX_LINES};
 
 use crate::expansion::expanded;
 use crate::formulas::{Shown, shown_of};
@@ -14,6 +16,7 @@ use prv_dep::Writes;
 use prv_lex::tokens;
 use prv_line::read_words;
 use prv_pool::Pool;
+use prv_settle::MAX_LINES;
 use std::alloc::{AllocError, Global};
 
 /// What stands around an expression.
@@ -50,6 +53,7 @@ pub fn answer(alloc: Global, row: &str) -> Result<String, Refusal> {
         "path" => path_answer(alloc, text),
         "parent" => parent_answer(alloc, text),
         "formula" => formula_answer(alloc, text),
+        "search" => search_answer(alloc, text),
         "edges" => edges_answer(alloc, text),
         _ => Err(Refusal::Row),
     }
@@ -205,7 +209,8 @@ fn terms_answer(alloc: Global, text: &str) -> Result<String, Refusal> {
     Ok(line)
 }
 
-/// Of each statement the variables that it may write and those that it reads, and whether it may leave.
+/// Of each statement the variables that it may write, those that it overwrites and those that it reads, and
+/// whether it may leave.
 fn reach_answer(alloc: Global, text: &str) -> Result<String, Refusal> {
     let text = expanded(alloc, text)?;
     let program = version_of(alloc, text.as_slice())?.program;
@@ -228,6 +233,9 @@ fn show_reach(line: &mut String, writes: &Writes, stmt: u32) -> Result<(), Alloc
         if writes.may_write(stmt, var) {
             write!(line, " w{var}")?;
         }
+        if writes.overwrites(stmt, var) {
+            write!(line, " o{var}")?;
+        }
         if writes.reads(stmt, var) {
             write!(line, " r{var}")?;
         }
@@ -247,12 +255,29 @@ fn words_answer(alloc: Global, text: &str) -> Result<String, Refusal> {
     Ok(format!(in alloc; "{command:?} waits {waits}")?)
 }
 
-/// What is shown of the formula of a condition.
+/// What unit propagation shows of the formula of a condition.
 fn formula_answer(alloc: Global, text: &str) -> Result<String, Refusal> {
+    shown_answer(alloc, text, 1)
+}
+
+/// A budget of lines before a condition: what a search within it shows.
+fn search_answer(alloc: Global, text: &str) -> Result<String, Refusal> {
+    let (lines, text) = text.split_once(' ').ok_or(Refusal::Row)?;
+    let lines: u32 = lines.parse()?;
+    if lines == 0 || lines > MAX_LINES {
+        return Err(Refusal::Row);
+    }
+    shown_answer(alloc, text, lines)
+}
+
+fn shown_answer(alloc: Global, text: &str, lines: u32) -> Result<String, Refusal>
+    requires some { 1 ≤ lines }
+    requires few { lines ≤ MAX_LINES }
+{
     let text = expanded(alloc, text)?;
     let text = String::from_utf8(text).map_err(|_| Refusal::Row)?;
     let mut line = String::new(alloc);
-    match shown_of(alloc, text.as_str())? {
+    match shown_of(alloc, text.as_str(), lines)? {
         Shown::Met(input) => {
             line.push_str("met at")?;
             for word in input.as_slice() {
@@ -284,13 +309,13 @@ fn edges_answer(alloc: Global, text: &str) -> Result<String, Refusal> {
 /// where unit propagation alone doesn't find it.
 fn show_edge(alloc: Global, line: &mut String, op: &str, a: &str, b: &str) -> Result<(), Refusal> {
     let circuit = format!(in alloc; "c a b {op} == a {a} == b {b} ==")?;
-    let Shown::Met(input) = shown_of(alloc, circuit.as_str())? else {
+    let Shown::Met(input) = shown_of(alloc, circuit.as_str(), 1)? else {
         return Err(Refusal::Row);
     };
     let value = input.as_slice().get(2).copied().unwrap_or(0);
     write!(line, " {value}")?;
     let other = format!(in alloc; "{circuit} c {value} !=")?;
-    if !matches!(shown_of(alloc, other.as_str())?, Shown::Refuted) {
+    if !matches!(shown_of(alloc, other.as_str(), 1)?, Shown::Refuted) {
         line.push('?')?;
     }
     Ok(())

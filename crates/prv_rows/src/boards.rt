@@ -24,8 +24,11 @@ const AMPLE: Caps = Caps {
 /// An entry that is to be settled, by so many lines, and at this input where one is given.
 #[derive(Drop)]
 struct Step {
+    /// The entry's number.
     entry: u32,
+    /// The budget of each search.
     lines: u32,
+    /// The input, where one is given.
     input: Option<Input>,
     ghost some: { 1 ≤ lines },
     ghost budget: { lines ≤ MAX_LINES },
@@ -146,7 +149,9 @@ pub fn capped(alloc: Global, text: &str) -> Result<(Board, Option<Refusal>), Ref
 /// An input that is looked up on a board.
 #[derive(Drop)]
 pub struct Question {
+    /// The board behind the steps.
     pub board: Board,
+    /// The input that is looked up.
     pub input: Input,
     ghost arity: { length input ≡ board.replay.pair.before.params },
 }

@@ -1,3 +1,4 @@
+//! Texts of a table as bytes: a row can name any byte by its number, and a long text by a piece and a count.
 use std::alloc::{AllocError, Global};
 
 /// What the next byte of a text is part of.
@@ -11,9 +12,13 @@ enum Part {
 /// The bytes made so far, and what was read since the last `\`.
 #[derive(Drop)]
 struct Expansion {
+    /// The bytes made so far.
     bytes: Vec<u8>,
+    /// What the next byte belongs to.
     part: Part,
+    /// The number read since the last `\`.
     count: u32,
+    /// The piece that is read between brackets.
     piece: Vec<u8>,
 }
 

@@ -1,14 +1,17 @@
-//! Formulas of conditions: what is found of them by unit propagation, and what they cost.
+//! Formulas of conditions: what is found of them within some lines, and what they cost.
 ghost use Rattle.std.specs.Prelude.{◌≡◌, ◌≤◌, length, true, nat_lt, IfOk, OnOk};
 ghost use Rattle.std.specs.List.{AllByRecursion, list_all};
 ghost use Rattle.prv_model.specs.Terms.{IsTerm};
+ghost use Rattle.prv_settle.specs.declared.limits.TheConstants.{MAX_LINES};
 
 use crate::nodes::{node_of, op_of, op_on};
 use crate::refusal::Refusal;
 use prv_blast::{BlastError, Blasted, blast};
+use prv_check::check;
 use prv_model::Input;
 use prv_pool::{Cond, Pool};
 use prv_sat::{Found, solve_from};
+use prv_settle::MAX_LINES;
 use std::alloc::{AllocError, Global};
 use std::sync::Arc;
 
@@ -17,9 +20,9 @@ use std::sync::Arc;
 pub enum Shown {
     /// An input that meets the condition.
     Met(Input),
-    /// Unit propagation refutes it.
+    /// A log refutes it, which the checker accepts.
     Refuted,
-    /// The first conflict needs a decision.
+    /// The lines are spent.
     Open,
     /// It has more than a million clauses.
     Large,
@@ -28,25 +31,34 @@ pub enum Shown {
 }
 
 /// What is shown of the condition whose literals are left on a stack by the words of a text: `a`, `b` and `c`, numbers,
-/// and operators behind their operands.
-pub fn shown_of(alloc: Global, text: &str) -> Result<Shown, Refusal> {
+/// and operators behind their operands. With one line that is what unit propagation shows.
+pub fn shown_of(alloc: Global, text: &str, lines: u32) -> Result<Shown, Refusal>
+    requires some { 1 ≤ lines }
+    requires few { lines ≤ MAX_LINES }
+{
     let mut pool = Pool::new(alloc, 1_000);
     let cond = condition_of(alloc, &mut pool, text)?;
     match blast(alloc, &pool, &cond) {
-        Ok(blasted) => solved(alloc, &blasted),
+        Ok(blasted) => solved(alloc, &blasted, lines),
         Err(BlastError::Clauses { count }) => Ok(Shown::Costs(count)),
         Err(BlastError::Memory) => Err(Refusal::Memory(AllocError)),
     }
 }
 
-/// What the solver shows up to its first conflict under a decision.
-fn solved(alloc: Global, blasted: &Blasted) -> Result<Shown, Refusal> {
+/// What the solver shows within so many lines.
+fn solved(alloc: Global, blasted: &Blasted, lines: u32) -> Result<Shown, Refusal>
+    requires some { 1 ≤ lines }
+    requires few { lines ≤ MAX_LINES }
+{
     if blasted.cnf.clauses().len() > 1_000_000 {
         return Ok(Shown::Large);
     }
-    match solve_from(alloc, &blasted.cnf, 1, 1_000_000_000, 0)? {
+    match solve_from(alloc, &blasted.cnf, lines, 1_000_000_000, 0)? {
         Found::Values(values) => Ok(Shown::Met(blasted.input_of(alloc, values.as_slice())?)),
-        Found::Refuted(_) => Ok(Shown::Refuted),
+        Found::Refuted(log) => {
+            check(alloc, &blasted.cnf, &log)?;
+            Ok(Shown::Refuted)
+        }
         Found::Spent { log: _, next: _ } => Ok(Shown::Open),
     }
 }

@@ -1,11 +1,13 @@
+//! Why a row gives no value. The message of each layer's error goes into the answer as it is.
 use prv_board::ApplyError;
+use prv_check::CheckError;
 use prv_lex::LexError;
 use prv_line::LineError;
 use prv_marks::PairError;
-use prv_names::NameError;
 use prv_parse::ParseError;
 use prv_pool::PoolError;
 use prv_settle::SettleAtError;
+use prv_version::VersionError;
 use std::alloc::AllocError;
 use std::num::ParseIntError;
 use thiserror::Error;
@@ -18,7 +20,7 @@ pub enum Refusal {
     #[error(transparent)]
     Parse(#[from] ParseError),
     #[error(transparent)]
-    Name(#[from] NameError),
+    Version(#[from] VersionError),
     #[error(transparent)]
     Pair(#[from] PairError),
     #[error(transparent)]
@@ -29,6 +31,8 @@ pub enum Refusal {
     Settle(#[from] SettleAtError),
     #[error(transparent)]
     Apply(#[from] ApplyError),
+    #[error(transparent)]
+    Check(#[from] CheckError),
     #[error(transparent)]
     Number(#[from] ParseIntError),
     #[error("no such row")]

@@ -2,7 +2,7 @@
 use crate::boards::{asked, board_behind, capped, find, last_settled, path};
 use crate::refusal::Refusal;
 use crate::terms::show_term;
-use prv_board::{ApplyError, Board};
+use prv_board::{ApplyError, Board, Totals};
 use prv_model::{Input, Kind};
 use prv_part::Part;
 use prv_pool::Region;
@@ -45,11 +45,13 @@ pub fn capped_answer(alloc: Global, text: &str) -> Result<String, Refusal> {
         None => {}
         Some(
             Refusal::Apply(
-                ApplyError::Full {
-                    entries,
-                    literals,
-                    ..
-                },
+                ApplyError::Full(
+                    Totals {
+                        entries,
+                        literals,
+                        ..
+                    },
+                ),
             ),
         ) => write!(line, "full at {entries} entries and {literals} literals; ")?,
         Some(why) => return Err(why),

@@ -4,14 +4,16 @@ ghost use Rattle.std.specs.Prelude.{◌≡◌, length};
 use crate::refusal::Refusal;
 use prv_dep::Writes;
 use prv_lex::tokens;
+use prv_line::TURNS;
 use prv_marks::pair;
 use prv_model::{Input, Outcome, Pair, Program};
-use prv_names::{Version, check};
+use prv_names::Version;
 use prv_parse::{Tree, parse};
 use prv_pool::Pool;
 use prv_run::Traced;
 use prv_select::{Chosen, select};
 use prv_sym::{Symbols, terms};
+use prv_version::read_version;
 use std::alloc::Global;
 
 pub fn tree_of(alloc: Global, text: &[u8]) -> Result<Tree, Refusal> {
@@ -24,21 +26,23 @@ pub fn tree_of(alloc: Global, text: &[u8]) -> Result<Tree, Refusal> {
 }
 
 pub fn version_of(alloc: Global, text: &[u8]) -> Result<Version, Refusal> {
-    let tree = tree_of(alloc, text)?;
-    Ok(check(alloc, tree)?)
+    Ok(read_version(alloc, text)?)
 }
 
 pub fn pair_of(alloc: Global, before: &[u8], after: &[u8]) -> Result<Pair, Refusal> {
     let before = version_of(alloc, before)?;
     let after = version_of(alloc, after)?;
-    Ok(pair(before, after, 32)?)
+    Ok(pair(before, after, TURNS.default)?)
 }
 
 /// A program, with an input and a bound on its turns, which are the numbers before it.
 #[derive(Drop)]
 struct Case {
+    /// The program.
     program: Program,
+    /// Its input.
     input: Input,
+    /// The turns of a run.
     turns: u32,
     ghost arity: { length input ≡ program.params },
 }

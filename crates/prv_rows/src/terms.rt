@@ -1,3 +1,5 @@
+//! Terms of a table's nodes, written out with all parentheses, so that a row shows their form and not how
+//! reports print them.
 use prv_pool::{Node, Pool};
 use std::alloc::AllocError;
 

@@ -1,3 +1,4 @@
+//! Tokens and skeletons, written with their places.
 use prv_lex::{Tok, Token};
 use prv_parse::{Skel, SkelItem};
 use std::alloc::AllocError;

@@ -1,3 +1,4 @@
+//! Trees of programs, written with brackets of their own, so that a row shows how a text is grouped.
 use crate::tokens::show_bytes;
 use prv_parse::{ExprTree, Ident, StmtTree};
 use sqlite_items::Boxed;

@@ -1,16 +1,16 @@
 -- What is run of a statement, variant by variant.
-use Rattle.std.proofs.Common.{◌≡◌, ℕ, ◌+◌, List, Option, Some, None, refl, sym, ap, ◌∙◌, map}
+use Rattle.std.proofs.Common.{◌≡◌, ℕ, ◌+◌, List, Option, Some, None, sym, ap, ◌∙◌}
 use Rattle.std.specs.Option.{option_map}
 use Rattle.prv_model.specs.Expressions.{value}
-use Rattle.prv_model.specs.Statements.{Frame, Step, exec}
+use Rattle.prv_model.specs.Statements.{Frame, exec}
 use Rattle.prv_model.specs.Programs.{stmt_count}
 use Rattle.prv_model.specs.declared.expr.Expr.{Expr}
 use Rattle.prv_model.specs.declared.stmt.Stmt.{Stmt}
 use Rattle.prv_model.specs.declared.stmt.Stmt.TheOpen.{Stmt-F}
-use Rattle.prv_model.specs.declared.stmt.Stmt.TheFolds.{para-Stmt, para-roll-Stmt}
+use Rattle.prv_model.specs.declared.stmt.Stmt.TheFolds.{para-roll-Stmt}
 use Rattle.prv_model.specs.declared.stmt.Stmt.TheVariants.{Skip, Set, If, While, Return, Out, Assert, Block, Marked, rolls-If, rolls-While, rolls-Return, rolls-Out, rolls-Assert, rolls-Block, rolls-Marked}
 use Rattle.prv_model.specs.declared.stmt.Stmt.TheVariants as v
-use Rattle.prv_run.specs.Runs.{Run, Use, Idle, Choice, Then, Mark, Sets, Puts, Returns, Asserts, Tests, evaluation, branch, otherwise_run, loop_run, node_runs, runs, runs_all}
+use Rattle.prv_run.specs.Runs.{Run, Idle, Choice, Then, Mark, Sets, Puts, Returns, Asserts, Tests, evaluation, branch, otherwise_run, loop_run, node_runs, runs, runs_all}
 
 pub runs-Skip : (k : ℕ) (f : Frame) → runs Skip k f ≡ Idle
 runs-Skip k f = ap (λ (s : Stmt). runs s k f) (sym v.rolls-Skip) ∙ ap (λ (r : ℕ → Frame → Run). r k f) (para-roll-Stmt (ℕ → Frame → Run) node_runs Stmt-F.Skip)

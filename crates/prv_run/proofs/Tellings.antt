@@ -1,9 +1,9 @@
 -- What a recorder is told of in parts, and which numbers follow for it.
-use Rattle.std.proofs.Common.{◌≡◌, ℕ, suc, zero, ◌+◌, ◌<◌, ◌≤◌, List, [], ◌∷◌, ◌++◌, length, drop, map, Option, Some, None, Result, Ok, Err, refl, sym, ap, ◌∙◌, subst, append_assoc, slice_get, ◌-◌, length-append, length-drop, sum, arith}
+use Rattle.std.proofs.Common.{◌≡◌, ℕ, suc, zero, ◌+◌, ◌<◌, ◌≤◌, List, [], ◌∷◌, ◌++◌, length, drop, map, Some, Result, Ok, Err, refl, sym, ap, ◌∙◌, subst, append_assoc, slice_get, ◌-◌, length-append, length-drop, sum, arith}
 use Rattle.std.proofs.lemmas.List.{append-nil, length-map, drop-drop, drop_at}
 use Rattle.std.proofs.lemmas.List.Sums.{sum_by-cons}
 use Rattle.std.specs.Result.{OkIff, result_unwrap_or}
-use Rattle.prv_model.specs.Numbers.{inside, statements, statements_all}
+use Rattle.prv_model.specs.Numbers.{statements, statements_all}
 use Rattle.prv_model.specs.Programs.{stmt_count}
 use Rattle.prv_model.proofs.NumberLaws.{counts}
 use Rattle.prv_model.specs.declared.limits.TheConstants.{MAX_STMTS}

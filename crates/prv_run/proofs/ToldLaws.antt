@@ -1,5 +1,5 @@
 -- What a recorder has been told behind a branch, behind one statement of a list, and behind one turn of a loop.
-use Rattle.std.proofs.Common.{◌≡◌, ℕ, zero, suc, ◌+◌, ◌-◌, ◌<◌, ◌≤◌, ◌==◌, Bool, true, false, List, [], ◌∷◌, ◌++◌, drop, map, ℤ, Option, Some, None, refl, sym, ap, ◌∙◌, subst, arith}
+use Rattle.std.proofs.Common.{◌≡◌, ℕ, zero, suc, ◌+◌, ◌-◌, ◌≤◌, ◌==◌, true, false, List, [], ◌∷◌, ◌++◌, ℤ, Option, Some, None, refl, sym, ap, ◌∙◌, subst, arith}
 use Rattle.std.proofs.lemmas.List.{append-nil}
 use Rattle.std.proofs.lemmas.Bool.Decides.{nat_tests}
 use Rattle.std.specs.Option.{option_map}
@@ -16,10 +16,10 @@ use Rattle.prv_model.specs.declared.stmt.Stmt.TheVariants.{If, While, Block, Mar
 use Rattle.prv_run.specs.declared.event.Event.{Event}
 use Rattle.prv_run.specs.declared.event.What.TheVariants as w
 use Rattle.prv_run.specs.declared.record.Recorder.{Recorder}
-use Rattle.prv_run.specs.Runs.{Run, Idle, follow, branch, loop_run, turn_run, otherwise_run, runs, runs_all, event, events}
+use Rattle.prv_run.specs.Runs.{Run, follow, branch, loop_run, otherwise_run, runs, runs_all, event, events}
 use Rattle.prv_run.specs.Telling.{tell, Knows, Agrees}
-use Rattle.prv_run.proofs.RunLaws.{runs-If, runs-While}
-use Rattle.prv_run.proofs.Tellings.{tell-nothing, tell-more, tell-agrees, knows-told, agrees-told, knows-front, knows-inside, knows-behind}
+use Rattle.prv_run.proofs.RunLaws.{runs-If}
+use Rattle.prv_run.proofs.Tellings.{tell-nothing, tell-more, tell-agrees, knows-inside}
 
 -- what is known inside a statement
 pub knows-If : (r : Recorder) (k j : ℕ) (test : Expr) (chosen : Stmt) (other : Option Stmt) → Knows r k (statements (If test chosen other)) → Agrees r j (k + 1) →
@@ -57,18 +57,15 @@ told-then r0 r1 r2 test chosen other k j f n found nonzero tested same rest =
     told-If r0 r1 r2 test chosen other k f (Some n) (events (runs chosen (k + 1) f)) found tested
     (rest ∙ tell-agrees r1 (λ i. events (runs chosen i f)) j (k + 1) same) (rw nonzero refl)
 
-pub told-no-else : (r0 r1 : Recorder) (test : Expr) (chosen : Stmt) (other : Option Stmt) (k : ℕ) (f : Frame) (n : ℤ) → value test f.state ≡ Some n → is_zero n ≡ true → other ≡ None →
-    r1 ≡ tell r0 (event k w.Test (value test f.state) ∷ []) → r1 ≡ tell r0 (events (runs (If test chosen other) k f))
-told-no-else r0 r1 test chosen other k f n found zeroed none tested =
-    told-If r0 r1 r1 test chosen other k f (Some n) [] found tested (sym (tell-nothing r1)) (rw (zeroed, none) refl)
-
-pub told-else : (r0 r1 r2 : Recorder) (test : Expr) (chosen last : Stmt) (other : Option Stmt) (k i j : ℕ) (f : Frame) (n : ℤ) → value test f.state ≡ Some n → is_zero n ≡ true → other ≡ Some last →
-    r1 ≡ tell r0 (event k w.Test (value test f.state) ∷ []) → Agrees r1 i (k + 1) → Agrees r1 j (i + stmt_count chosen) → r2 ≡ tell r1 (events (runs last j f)) →
+pub told-else : (r0 r1 r2 : Recorder) (test : Expr) (chosen : Stmt) (other : Option Stmt) (k i j : ℕ) (f : Frame) (n : ℤ) → value test f.state ≡ Some n → is_zero n ≡ true →
+    r1 ≡ tell r0 (event k w.Test (value test f.state) ∷ []) → Agrees r1 i (k + 1) → Agrees r1 j (i + stmt_count chosen) →
+    r2 ≡ tell r1 (events (otherwise_run (option_map (λ s. (s, runs s)) other) j f)) →
     r2 ≡ tell r0 (events (runs (If test chosen other) k f))
-told-else r0 r1 r2 test chosen last other k i j f n found zeroed some tested first second rest =
-    told-If r0 r1 r2 test chosen other k f (Some n) (events (runs last (k + 1 + stmt_count chosen) f)) found tested
-    (rest ∙ tell-agrees r1 (λ m. events (runs last m f)) j (i + stmt_count chosen) second
-    ∙ tell-agrees r1 (λ m. events (runs last (m + stmt_count chosen) f)) i (k + 1) first) (rw (zeroed, some) refl)
+told-else r0 r1 r2 test chosen other k i j f n found zeroed tested first second rest =
+    let run = otherwise_run (option_map (λ s. (s, runs s)) other) in
+    told-If r0 r1 r2 test chosen other k f (Some n) (events (run (k + 1 + stmt_count chosen) f)) found tested
+    (rest ∙ tell-agrees r1 (λ m. events (run m f)) j (i + stmt_count chosen) second
+    ∙ tell-agrees r1 (λ m. events (run (m + stmt_count chosen) f)) i (k + 1) first) (rw zeroed refl)
 
 -- one statement of a list, behind which the run goes on or ends
 pub told-next : (r r1 : Recorder) (s : Stmt) (all : List Stmt) (k j : ℕ) (f g : Frame) → exec s f ≡ goes g → r1 ≡ tell r (events (runs s k f)) → Agrees r1 j (k + stmt_count s) →

@@ -1,5 +1,5 @@
 -- What is evaluated in a run, kept as a structure of the statements that are run. It is made from what they do.
-use Rattle.std.specs.Prelude.{ℕ, zero, suc, ◌+◌, ◌==◌, Bool, true, false, List, [], ◌∷◌, ◌++◌, Option, Some, None, ℤ, pos, if◌then◌else◌, map}
+use Rattle.std.specs.Prelude.{ℕ, zero, suc, ◌+◌, ◌==◌, true, false, List, [], ◌∷◌, ◌++◌, Option, Some, None, ℤ, pos, if◌then◌else◌, map}
 use Rattle.std.specs.Option.{option_map}
 use Rattle.prv_model.specs.Words.{is_zero}
 use Rattle.prv_model.specs.Expressions.{value}

@@ -1,3 +1,4 @@
+//! The value of an expression in a state: a recursion over the tree, with the faults of divisions.
 ghost use Rattle.std.specs.Prelude.{◌≡◌, neg_ℤ};
 ghost use Rattle.std.specs.Option.{option_map};
 ghost use Rattle.prv_model.specs.Words.{truth as truth_of, unary as unary_of, wrap};

@@ -1,3 +1,4 @@
+//! What is told of a run: each evaluation of an expression, by the number of its statement.
 use prv_model::Outcome;
 use sqlite_items::Items;
 
@@ -22,6 +23,7 @@ pub struct Event {
     /// The number of the statement that has the expression: its place among the program's statements in
     /// text order, from 0. Each statement inside another counts, and `main`'s own block doesn't.
     pub stmt: u32,
+    /// What the expression was evaluated for.
     pub what: What,
     /// The value; 0 where the evaluation was a fault.
     pub value: i32,
@@ -32,6 +34,8 @@ pub struct Event {
 /// What was evaluated in a run, in order, and what the run shows.
 #[derive(Debug, Drop)]
 pub struct Traced {
+    /// The evaluations, in their order.
     pub events: Items<Event>,
+    /// What the run shows.
     pub outcome: Outcome,
 }

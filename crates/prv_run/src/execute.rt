@@ -1,24 +1,33 @@
+//! What a statement does to a run: the interpreter, one function a kind of statement that does something.
+//!
+//! It runs the tree as it stands, so that each function's contract is the statement's meaning at a frame.
+//! Whether the run is recorded makes no difference to it: it hands each evaluation to a recorder, which
+//! keeps it or doesn't. A statement's number is known only where it is recorded.
 ghost use Rattle.std.specs.Prelude.{◌≡◌, ◌≤◌, ◌<◌, [], ◌∷◌, true, length, map, IfOk, OnOk, if◌then◌else◌};
 ghost use Rattle.prv_model.specs.Words.{is_zero};
 ghost use Rattle.prv_model.specs.Expressions.{value as value_of};
-ghost use Rattle.prv_model.specs.Numbers.{statements, statements_all};
-ghost use Rattle.prv_model.specs.Programs.{stmt_over, all_true};
-ghost use Rattle.prv_model.specs.Statements.{exec, exec_all, loop, with_value, goes, ends, assign as assign_to, put};
+ghost use Rattle.std.specs.Option.{option_map};
+ghost use Rattle.prv_model.specs.Numbers.{inside, statements, statements_all, branch_inside};
+ghost use Rattle.prv_model.specs.Programs.{stmt_over, all_true, passed};
+ghost use Rattle.prv_model.specs.Statements.{exec, exec_all, loop, otherwise, with_value, goes, ends, assign as assign_to, put};
 ghost use Rattle.prv_run.specs.Frames.{frame_of, step_of};
-ghost use Rattle.prv_run.specs.Runs.{runs, runs_all, event, events};
+ghost use Rattle.prv_run.specs.Runs.{runs, runs_all, otherwise_run, event, events};
 ghost use Rattle.prv_run.specs.Telling.{tell, Knows};
 
 use crate::event::What;
 use crate::record::Recorder;
 use prv_model::{Ending, Expr, Stmt};
-use sqlite_items::Items;
+use sqlite_items::{Boxed, Items};
 use std::alloc::AllocError;
 
-/// Where a run stands: the variables' words, what it has put out, and the turns that are left.
+/// Where a run stands.
 #[derive(Drop)]
 pub struct Frame {
+    /// The word of each variable.
     pub state: Items<i32>,
+    /// What was put out so far.
     pub outs: Items<i32>,
+    /// The turns of loops that are left to the whole run.
     pub turns: u32,
 }
 
@@ -52,14 +61,9 @@ pub fn execute(
                         let ending = execute(yes.get(), first, frame, recorder)?;
                         Ok(ending)
                     } else {
-                        match no {
-                            None => Ok(None),
-                            Some(branch) => {
-                                let second = recorder.behind(first);
-                                let ending = execute(branch.get(), second, frame, recorder)?;
-                                Ok(ending)
-                            }
-                        }
+                        let second = recorder.behind(first);
+                        let ending = execute_else(no, second, frame, recorder)?;
+                        Ok(ending)
                     }
                 }
             }
@@ -75,13 +79,35 @@ pub fn execute(
         }
         Stmt::Assert(value) => check(value, number, frame, recorder),
         Stmt::Block(all) => {
-            let first = recorder.inside(number);
-            let ending = execute_all(all.as_slice(), first, frame, recorder)?;
+            let ending = execute_all(all.as_slice(), recorder.inside(number), frame, recorder)?;
             Ok(ending)
         }
         Stmt::Marked { mark: _, body } => {
-            let first = recorder.inside(number);
-            let ending = execute(body.get(), first, frame, recorder)?;
+            let ending = execute(body.get(), recorder.inside(number), frame, recorder)?;
+            Ok(ending)
+        }
+    }
+}
+
+/// Runs the branch of an `else`, which has this number, if there is one.
+#[cycle(execute)]
+fn execute_else(
+    branch: &Option<Boxed<Stmt>>,
+    number: u32,
+    frame: &mut Frame,
+    recorder: &mut Recorder,
+) -> Result<Option<Ending>, AllocError>
+    requires over { passed (option_map (λ s. stmt_over (length frame.old.state) s) branch.now) ≡ true }
+    requires known { Knows recorder.old number (branch_inside (option_map (λ s. (s, inside s)) branch.now)) }
+    ensures done { IfOk result (λ ending. otherwise (option_map (λ s. exec s) branch.now) (frame_of frame.old) ≡ step_of frame.new ending) }
+    ensures told { OnOk result (recorder.new ≡ tell recorder.old (events (otherwise_run (option_map (λ s. (s, runs s)) branch.now) number (frame_of frame.old)))) }
+    ensures spent { frame.new.turns ≤ frame.old.turns }
+    ensures variables { length frame.new.state ≡ length frame.old.state }
+{
+    match branch {
+        None => Ok(None),
+        Some(stmt) => {
+            let ending = execute(stmt.get(), number, frame, recorder)?;
             Ok(ending)
         }
     }

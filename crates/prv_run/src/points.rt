@@ -1,3 +1,7 @@
+//! What a pair does at one input, as a list of entries.
+//!
+//! It is the smallest list that is about all inputs: one entry holds the input alone, and for each
+//! parameter one more is left open, with the inputs that differ from it there first.
 ghost use Rattle.std.specs.Prelude.{◌≡◌, ◌≤◌, [], ◌++◌, length, IfOk, OnOk};
 ghost use Rattle.prv_model.specs.Comparison.{verdict as verdict_of};
 ghost use Rattle.prv_model.specs.Boards.{IsLegal, FirstHoldsOnly};

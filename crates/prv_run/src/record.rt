@@ -1,3 +1,8 @@
+//! What a run tells of itself while it goes on.
+//!
+//! One interpreter serves both the plain run and the traced one: a recorder that is off takes no memory and
+//! knows no numbers, and one that is on keeps each evaluation. Statements are numbered as they are met: the
+//! number behind a statement is its own and how many statements it is, which the recorder has in a table.
 ghost use Rattle.std.specs.Prelude.{◌≡◌, ◌+◌, [], ◌∷◌, OnOk, IfOk};
 ghost use Rattle.prv_model.specs.Expressions.{value};
 ghost use Rattle.prv_model.specs.Numbers.{statements};
@@ -15,10 +20,13 @@ use std::alloc::{AllocError, Global};
 /// What a run tells of itself: nothing, or each evaluation.
 #[derive(Drop)]
 pub enum Recorder {
+    /// Nothing is kept.
     Off,
+    /// Each evaluation is kept.
     On {
         /// How many statements each statement is, by its number.
         sizes: Items<usize>,
+        /// The evaluations so far, in their order.
         events: Items<Event>,
     },
 }

@@ -1,3 +1,4 @@
+//! The runs of a program: its outcome, and its outcome with what was evaluated.
 ghost use Rattle.std.specs.Prelude.{◌≡◌, ◌≤◌, ◌-◌, ◌++◌, [], pos, length, replicate, IfOk, OnOk};
 ghost use Rattle.prv_model.specs.Numbers.{statements_all};
 ghost use Rattle.prv_model.specs.Outcomes.{outcome, finish as finish_of};

@@ -1,3 +1,4 @@
+//! How many statements each statement of a program is, in text order.
 ghost use Rattle.std.specs.Prelude.{◌≡◌, ◌++◌, map, IfOk, OnOk};
 ghost use Rattle.prv_model.specs.Numbers.{inside, statements, statements_all};
 ghost use Rattle.prv_model.specs.Programs.{stmt_count};

@@ -15,7 +15,7 @@ use Rattle.prv_propagate.proofs.Signs.{and_true, has_literal-push, or_false}
 use Rattle.prv_propagate.proofs.Walking.{within_take, front_more}
 use Rattle.prv_propagate.proofs.Listing.{all-weaker}
 use Rattle.prv_sat.specs.Marking.{is_except, AreMarkedToo}
-use Rattle.prv_sat.specs.Analyses.{IsPartOf, IsDerived, IsTurn, IsReach, IsLast}
+use Rattle.prv_sat.specs.Analyses.{IsPartOf, IsDerived, IsUniquePoint, IsReach, IsLast}
 use Rattle.prv_sat.proofs.Deriving.{derived_step, derived_less}
 
 -- a front that has a literal of its last step more
@@ -155,9 +155,9 @@ pub marked_alone : (old lits new c : List Lit) → old ≡ [] → lits ≡ c →
 marked_alone old lits new c none e marks x =
     marks x ∙ ap (λ (ls : List Lit). has_literal ls x || (has_literal lits (negate x) && true)) none ∙ and_true (has_literal lits (negate x)) ∙ ap (λ (ls : List Lit). has_literal ls (negate x)) e
 
--- a turn, where the others are reached before the decision
-pub turn_from : (steps : List Step) (marked : List Lit) (at base keep : ℕ) → at < length steps → has_literal marked (step_at steps at).lit ≡ true → base ≤ at → IsDecision (step_at steps base) → IsReach steps marked (step_at steps at).lit keep → keep ≤ base → IsTurn steps marked (record { at = at; base = base })
-turn_from steps marked at base keep inside there le dec reached below = record {
+-- a unique implication point, where the others are reached before the decision
+pub point_from : (steps : List Step) (marked : List Lit) (at base keep : ℕ) → at < length steps → has_literal marked (step_at steps at).lit ≡ true → base ≤ at → IsDecision (step_at steps base) → IsReach steps marked (step_at steps at).lit keep → keep ≤ base → IsUniquePoint steps marked (record { at = at; base = base })
+point_from steps marked at base keep inside there le dec reached below = record {
   inside = inside;
   marked_there = there;
   base = le;

@@ -10,7 +10,7 @@ use Rattle.prv_check.specs.LogLines.{LogLine, line_numbers}
 use Rattle.prv_check.specs.Lines.{line_fault, Follows}
 use Rattle.prv_check.specs.Logs.{IsFaultless, ends_empty}
 use Rattle.prv_check.specs.Spending.{are_distinct, IsLearnt, AreLearnt, log_numbers, IsSpent}
-use Rattle.prv_sat.specs.Lessons.{IsEnd}
+use Rattle.prv_sat.specs.Conclusions.{IsEnd}
 use Rattle.prv_check.proofs.Spending.{ample_not_spent}
 use Rattle.prv_sat.specs.declared.found.Found.{Found}
 use Rattle.prv_sat.specs.declared.found.Found.TheVariants.{Values, Refuted, Spent}
@@ -87,4 +87,4 @@ spent_lines f log lines numbers learnt within all = record { learnt = learnt; wi
 pub decided_from : (f : Formula) (lines numbers : ℕ) (found : Found) → IsFound f lines numbers found → IsAmple f lines numbers → IsDecided found
 decided_from f lines numbers (Values v) h ample = tt
 decided_from f lines numbers (Refuted log) h ample = tt
-decided_from f lines numbers (Spent log next) h ample = ample_not_spent f log next lines numbers ample.enough_lines ample.enough_numbers h
+decided_from f lines numbers (Spent log next) h ample = ample_not_spent f log next lines numbers ample.enough_lines ample.enough_numbers h.0

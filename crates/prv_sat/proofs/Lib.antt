@@ -2,6 +2,6 @@ pub mod Marked
 pub mod Deriving
 pub mod Analyzing
 pub mod Minimizing
-pub mod Teaching
+pub mod Learning
 pub mod Searching
 pub mod Finishing

@@ -27,7 +27,7 @@ use Rattle.prv_propagate.proofs.Guarding.{IsWithin, satisfied_by, satisfied_from
 use Rattle.prv_propagate.proofs.Walking.{within_push, within_take}
 use Rattle.prv_propagate.proofs.Extending.{extended_true}
 use Rattle.prv_sat.specs.Analyses.{AreOpen}
-use Rattle.prv_sat.specs.Lessons.{IsLesson}
+use Rattle.prv_sat.specs.Conclusions.{IsLearntClause}
 use Rattle.prv_sat.specs.States.{IsState, IsReady}
 use Rattle.prv_sat.specs.Searches.{AreSatisfied, AreValues}
 
@@ -178,7 +178,7 @@ pub record IsAddable (f : Formula) (lines : List LogLine) (t : Trailing) (w : Wa
   pub not_false : is_false (trues t.steps) lit ≡ false
   pub asserting : IsAsserting t.steps c lit keep
 
-pub addable : (f : Formula) (lines : List LogLine) (t : Trailing) (w : Watching) (s : LogLine) (lit : Lit) (keep end : ℕ) → IsState f lines t w → IsAssignment t → IsLesson f lines t.steps s lit keep → IsCut t.steps keep end → IsAddable f lines (record t { steps = take end t.steps }) w s.clause lit keep
+pub addable : (f : Formula) (lines : List LogLine) (t : Trailing) (w : Watching) (s : LogLine) (lit : Lit) (keep end : ℕ) → IsState f lines t w → IsAssignment t → IsLearntClause f lines t.steps s lit keep → IsCut t.steps keep end → IsAddable f lines (record t { steps = take end t.steps }) w s.clause lit keep
 addable f lines t w s lit keep end state assigned l cut =
     let low : end ≤ l.base = elim (cases_lt l.base end) [
       | inl high ↦ absurd (omega (arith, cut.last l.base high l.decision, l.kept))

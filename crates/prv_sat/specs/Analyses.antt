@@ -12,7 +12,7 @@ use Rattle.prv_propagate.specs.declared.watches.Pair.{Pair}
 use Rattle.prv_propagate.specs.Trails.{trues, step_at, EachStep, IsDecision}
 use Rattle.prv_propagate.specs.Reasons.{clause_of, is_satisfied}
 use Rattle.prv_propagate.specs.Guards.{is_free}
-use Rattle.prv_sat.specs.declared.analysis.Turn.{Turn}
+use Rattle.prv_sat.specs.declared.analysis.UniquePoint.{UniquePoint}
 
 -- each literal of one list stands in another
 abbrev pub IsPartOf : List Lit → List Lit → Type 0
@@ -30,18 +30,19 @@ pub record IsDerived (cs : List (List Lit)) (trues bound marked : List Lit) (hin
   pub apart : (l : Lit) → has_literal bound l ≡ true → stands_in (clauses_at cs hints) l ≡ false
   pub distinct : are_distinct hints ≡ true
 
--- a turn: a marked step at or after a decision, so that the other marked literals stand before that
-pub record IsTurn (steps : List Step) (marked : List Lit) (turn : Turn) : Type 0 where
-  pub inside : turn.at < length steps
-  pub marked_there : has_literal marked (step_at steps turn.at).lit ≡ true
-  pub base : turn.base ≤ turn.at
-  pub decision : IsDecision (step_at steps turn.base)
-  pub others : (l : Lit) → has_literal marked l ≡ true → (l ≡ (step_at steps turn.at).lit) ⊎ (has_literal (trues (take turn.base steps)) l ≡ true)
+-- a unique implication point: a marked step at or after a decision, so that the other marked literals
+-- stand before that
+pub record IsUniquePoint (steps : List Step) (marked : List Lit) (point : UniquePoint) : Type 0 where
+  pub inside : point.at < length steps
+  pub marked_there : has_literal marked (step_at steps point.at).lit ≡ true
+  pub base : point.base ≤ point.at
+  pub decision : IsDecision (step_at steps point.base)
+  pub others : (l : Lit) → has_literal marked l ≡ true → (l ≡ (step_at steps point.at).lit) ⊎ (has_literal (trues (take point.base steps)) l ≡ true)
 
--- the analysis ends where nothing is marked any more, or at a turn
-abbrev pub IsAnalyzed : List (List Lit) → List Step → List Lit → List ℕ → Option Turn → Type 0
+-- the analysis ends where nothing is marked any more, or at a unique implication point
+abbrev pub IsAnalyzed : List (List Lit) → List Step → List Lit → List ℕ → Option UniquePoint → Type 0
 IsAnalyzed cs steps marked hints found =
-    MatchOption found (IsDerived cs (trues steps) [] marked hints) (λ turn. IsDerived cs (trues steps) marked marked hints × IsTurn steps marked turn)
+    MatchOption found (IsDerived cs (trues steps) [] marked hints) (λ point. IsDerived cs (trues steps) marked marked hints × IsUniquePoint steps marked point)
 
 -- the clause is true in the front, or has two different literals that are not false in it
 abbrev pub IsOpen : List Lit → List Lit → Type 0

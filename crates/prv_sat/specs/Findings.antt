@@ -1,10 +1,11 @@
 -- What the solver may answer.
-use Rattle.std.specs.Prelude.{◌≡◌, ℕ, ◌+◌, ◌*◌, ◌-◌, ◌^◌, ◌≤◌, ⊤, List, length, take, slice_get, IfSome, IsTrue}
+use Rattle.std.specs.Prelude.{◌≡◌, ℕ, ◌+◌, ◌*◌, ◌-◌, ◌^◌, ◌<◌, ◌≤◌, ⊤, List, length, take, IfSome}
 use Rattle.prv_cnf.specs.Formulas.{Formula}
 use Rattle.prv_cnf.specs.Models.{IsModel, values_of}
 use Rattle.prv_check.specs.LogLines.{LogLine}
 use Rattle.prv_check.specs.Logs.{IsAccepted}
-use Rattle.prv_check.specs.Spending.{IsSpent, log_numbers, are_distinct}
+use Rattle.prv_check.specs.Spending.{IsSpent, log_numbers}
+use Rattle.prv_check.specs.Bounds.{HasDistinctHints}
 use Rattle.prv_sat.specs.declared.found.Found.{Found}
 use Rattle.prv_sat.specs.declared.found.Found.TheVariants.{Values, Refuted, Spent}
 
@@ -13,14 +14,14 @@ pub record IsRefutation (f : Formula) (log : List LogLine) (lines numbers : ℕ)
   pub accepted : IsAccepted f log
   pub lines_within : length log ≤ lines
   pub numbers_within : log_numbers (take (length log - 1) log) ≤ numbers
-  pub distinct : (k : ℕ) → IfSome (slice_get log k) (λ s. IsTrue (are_distinct s.hints))
+  pub distinct : HasDistinctHints log
 
 -- one value for each variable, which satisfy the formula; or a log that refutes it; or a log on which
--- the budget was spent
+-- the budget was spent: it has all the lines, or fewer where a further line would pass the numbers
 abbrev pub IsFound : Formula → ℕ → ℕ → Found → Type 0
 IsFound f lines numbers (Values v) = (length v.items ≡ f.vars) × IsModel (values_of v.items) f
 IsFound f lines numbers (Refuted log) = IsRefutation f log lines numbers
-IsFound f lines numbers (Spent log next) = IsSpent f log next lines numbers
+IsFound f lines numbers (Spent log next) = IsSpent f log next lines numbers × IfSome next (λ s. length log < lines)
 
 -- a budget that suffices for each line that is worth its numbers: over v variables there are fewer than
 -- 3^v of them

@@ -1,6 +1,6 @@
 pub mod Marking
 pub mod Analyses
-pub mod Lessons
+pub mod Conclusions
 pub mod States
 pub mod Findings
 pub mod Searches

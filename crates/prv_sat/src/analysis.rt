@@ -9,7 +9,7 @@ ghost use Rattle.prv_propagate.specs.Trails.{trues, step_at, IsDecision};
 ghost use Rattle.prv_propagate.specs.Reasons.{AreJustified};
 ghost use Rattle.prv_propagate.specs.Soundness.{IsConflict};
 ghost use Rattle.prv_sat.specs.Marking.{is_except, AreMarkedToo};
-ghost use Rattle.prv_sat.specs.Analyses.{IsPartOf, IsDerived, IsAnalyzed, IsTurn, IsReach, IsLast};
+ghost use Rattle.prv_sat.specs.Analyses.{IsPartOf, IsDerived, IsAnalyzed, IsUniquePoint, IsReach, IsLast};
 
 use crate::marks::Marks;
 use prv_check::Line;
@@ -17,16 +17,19 @@ use prv_cnf::{Cnf, Lit};
 use prv_propagate::{NO_REASON, Trail, clause_at, is_same};
 use std::alloc::AllocError;
 
-/// Where an analysis ends: at a marked step, so that the other marked literals stand before the
-/// decision at `base`.
+/// A unique implication point: a marked step at or after a decision, so that the other marked literals
+/// stand before that decision. The negations of the marked literals are then a learnt clause.
 #[derive(Clone, Copy)]
-pub struct Turn {
+pub struct UniquePoint {
+    /// The place of the step on the trail.
     pub at: usize,
+    /// The place of the decision.
     pub base: usize,
 }
 
 /// Goes back through the trail from a conflict, and replaces each marked literal by those that imply
-/// it, until one is left that stands after the last decision. The hints come last to first.
+/// it, until one is left that stands after the last decision: the first unique implication point.
+/// There is none where the formula has no model. The hints come last to first.
 pub fn analyze(
     cnf: &Cnf,
     lines: &[Line],
@@ -34,7 +37,7 @@ pub fn analyze(
     conflict: u32,
     marks: &mut Marks,
     hints: &mut Vec<u32>,
-) -> Result<Option<Turn>, AllocError>
+) -> Result<Option<UniquePoint>, AllocError>
     requires justified { AreJustified (known cnf.now lines.now) trail.now.steps }
     requires conflict { IsConflict (known cnf.now lines.now) trail.now.steps conflict }
     requires marked { marks.old.marked ≡ [] }
@@ -50,8 +53,8 @@ pub fn analyze(
         if !marks.has(trail.steps()[at].lit) {
             continue;
         }
-        if let Some(turn) = turn_at(trail, marks, at, open) {
-            return Ok(Some(turn));
+        if let Some(point) = point_at(trail, marks, at, open) {
+            return Ok(Some(point));
         }
         let more = resolve(cnf, lines, trail, at, marks, hints)?;
         open = open.wrapping_add(more).wrapping_sub(1);
@@ -77,6 +80,7 @@ fn begin(
 {
     hints.push(conflict)?;
     let lits = clause_at(cnf, lines, conflict as usize);
+    // The steps' contract says that no literal is true with its negation.
     let _ = trail.steps();
     let more = mark_negations(lits, None, trail, marks)?;
     Ok(more)
@@ -109,17 +113,17 @@ fn resolve(
     Ok(more)
 }
 
-/// The turn at a marked step, if it is one.
-fn turn_at(trail: &Trail, marks: &Marks, at: usize, open: usize) -> Option<Turn>
+/// The unique implication point at a marked step, if it is one.
+fn point_at(trail: &Trail, marks: &Marks, at: usize, open: usize) -> Option<UniquePoint>
     requires inside { at < length trail.now.steps }
     requires marked { has_literal marks.now.marked (step_at trail.now.steps at).lit ≡ true }
     requires front { IsPartOf marks.now.marked (trues (take (at + 1) trail.now.steps)) }
     ensures none { IfNone result (IsDecision (step_at trail.now.steps at) → ⊥) }
-    ensures some { IfSome result (IsTurn trail.now.steps marks.now.marked) }
+    ensures some { IfSome result (IsUniquePoint trail.now.steps marks.now.marked) }
 {
     let step = trail.steps()[at];
     if step.reason == NO_REASON {
-        return Some(Turn { at, base: at });
+        return Some(UniquePoint { at, base: at });
     }
     if open != 1 {
         return None;
@@ -128,7 +132,7 @@ fn turn_at(trail: &Trail, marks: &Marks, at: usize, open: usize) -> Option<Turn>
         return None;
     };
     if base <= at && reach(marks, trail, step.lit) <= base {
-        Some(Turn { at, base })
+        Some(UniquePoint { at, base })
     } else {
         None
     }
@@ -173,6 +177,7 @@ fn mark_other(
     if is_except(except, lit) {
         return Ok(false);
     }
+    // The steps' contract says that true literals are of variables, so that the negation fits.
     let _ = trail.steps();
     marks.mark(lit.negated())
 }
@@ -209,6 +214,7 @@ fn needed(marks: &Marks, trail: &Trail, other: Lit, lit: Lit) -> usize
     if !marks.has(other) || is_same(other, lit) {
         return 0;
     }
+    // The steps' contract bounds their count.
     let _ = trail.steps();
     trail.position(other) + 1
 }

@@ -1,3 +1,4 @@
+//! What the solver answers.
 use prv_check::{Line, Log};
 
 /// What the solver found of a formula.

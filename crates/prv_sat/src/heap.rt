@@ -5,14 +5,20 @@ use std::alloc::{AllocError, Global};
 /// A heap of variables, in which none stands below one of less activity.
 #[derive(Debug, Drop)]
 pub struct Heap {
+    /// The heap: the variables below place k stand at 2k + 1 and 2k + 2.
     vars: Vec<u32>,
+    /// Under each variable its place in the heap, from 1, or 0.
     places: Vec<usize>,
+    /// Under each variable how active it is.
     activity: Vec<f64>,
+    /// What the next bump adds.
     bump: f64,
 }
 
+/// What a bump is worth after one conflict more.
 const DECAY: f64 = 0.97;
 
+/// Activities beyond this are scaled down, all alike.
 const LARGE: f64 = 1e100;
 
 /// No path in the heap is longer.

@@ -3,7 +3,7 @@ ghost use Rattle.std.specs.Prelude.{◌≡◌, ◌+◌, ◌^◌, ◌<◌, ◌≤
 ghost use Rattle.prv_check.specs.Lines.{known};
 ghost use Rattle.prv_propagate.specs.Trails.{IsCut};
 ghost use Rattle.prv_sat.specs.States.{IsState, IsReady};
-ghost use Rattle.prv_sat.specs.Lessons.{IsLesson};
+ghost use Rattle.prv_sat.specs.Conclusions.{IsLearntClause};
 
 use crate::order::Order;
 use crate::search::State;
@@ -33,6 +33,7 @@ pub fn restart(cnf: &Cnf, state: &mut State, order: &mut Order) -> Result<(), Al
     ensures ready { OnOk result (IsReady cnf.now state.new.lines.items state.new.trail state.new.watches state.new.done) }
     ensures lines { OnOk result (state.new.lines.items ≡ state.old.lines.items) }
 {
+    // The formula is named by the clauses alone.
     let _ = cnf;
     let end = cut_back(state, order, 0)?;
     state.done = least(state.done, end);
@@ -49,11 +50,12 @@ pub fn adopt(
     keep: usize,
 ) -> Result<(), AllocError>
     requires state { IsState cnf.now state.old.lines.items state.old.trail state.old.watches }
-    requires lesson { IsLesson cnf.now state.old.lines.items state.old.trail.steps line lit keep }
+    requires clause { IsLearntClause cnf.now state.old.lines.items state.old.trail.steps line lit keep }
     requires few { length (known cnf.now state.old.lines.items) + 1 < 2 ^ 32 }
     ensures ready { OnOk result (IsReady cnf.now state.new.lines.items state.new.trail state.new.watches state.new.done) }
     ensures lines { OnOk result (state.new.lines.items ≡ state.old.lines.items ++ line ∷ []) }
 {
+    // The steps' contract says that the true literals are an assignment.
     let _ = state.trail.steps();
     let end = cut_back(state, order, keep)?;
     add_line(

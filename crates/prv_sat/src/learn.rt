@@ -1,13 +1,14 @@
-//! The line that a conflict teaches.
+//! What follows from a conflict: the clause that is learnt at the first unique implication point, with
+//! the hints that derive it, or the empty clause.
 ghost use Rattle.std.specs.Prelude.{◌≡◌, [], reverse, IfOk, OnOk};
 ghost use Rattle.prv_check.specs.Lines.{known};
 ghost use Rattle.prv_propagate.specs.Reasons.{AreJustified};
 ghost use Rattle.prv_propagate.specs.Soundness.{IsConflict};
-ghost use Rattle.prv_sat.specs.Analyses.{AreOpen, IsDerived, IsTurn};
+ghost use Rattle.prv_sat.specs.Analyses.{AreOpen, IsDerived, IsUniquePoint};
 ghost use Rattle.prv_propagate.specs.Trails.{trues};
-ghost use Rattle.prv_sat.specs.Lessons.{IsTaught, IsEnd};
+ghost use Rattle.prv_sat.specs.Conclusions.{IsConclusion, IsEnd};
 
-use crate::analysis::{Turn, analyze, reach};
+use crate::analysis::{UniquePoint, analyze, reach};
 use crate::marks::Marks;
 use crate::minimize::minimize;
 use prv_check::Line;
@@ -15,16 +16,16 @@ use prv_cnf::{Clause, Cnf, Lit};
 use prv_propagate::Trail;
 use std::alloc::{AllocError, Global};
 
-/// What a conflict teaches.
+/// What follows from a conflict.
 #[derive(Drop)]
-pub enum Lesson {
+pub enum Conclusion {
     /// The empty line: the formula has no model.
     Refuted(Line),
-    /// A line that implies its literal `lit` once the trail is cut to `keep` steps.
+    /// A learnt clause, which implies its literal `lit` once the trail is cut to `keep` steps.
     Learnt { line: Line, lit: Lit, keep: usize },
 }
 
-/// What the clause with this number teaches, whose literals are all false.
+/// What follows from the clause with this number, whose literals are all false.
 pub fn learn(
     alloc: Global,
     cnf: &Cnf,
@@ -33,14 +34,14 @@ pub fn learn(
     conflict: u32,
     marks: &mut Marks,
     places: &mut Vec<u32>,
-) -> Result<Lesson, AllocError>
+) -> Result<Conclusion, AllocError>
     requires justified { AreJustified (known cnf.now lines.now) trail.now.steps }
     requires conflict { IsConflict (known cnf.now lines.now) trail.now.steps conflict }
     requires decisions { AreOpen (known cnf.now lines.now) trail.now.steps }
     requires formula { trail.now.vars ≡ cnf.now.vars }
     requires marked { marks.old.marked ≡ [] }
     requires vars { marks.old.vars ≡ trail.now.vars }
-    ensures taught { IfOk result (IsTaught cnf.now lines.now trail.now.steps) }
+    ensures concluded { IfOk result (IsConclusion cnf.now lines.now trail.now.steps) }
     ensures vars { OnOk result (marks.new.vars ≡ marks.old.vars) }
 {
     let mut hints = Vec::new(alloc);
@@ -48,11 +49,11 @@ pub fn learn(
     match found {
         None => {
             let line = end_line(alloc, cnf, lines, trail, marks, hints)?;
-            Ok(Lesson::Refuted(line))
+            Ok(Conclusion::Refuted(line))
         }
-        Some(turn) => {
-            let lesson = line_at(alloc, cnf, lines, trail, turn, marks, hints, places)?;
-            Ok(lesson)
+        Some(point) => {
+            let conclusion = line_at(alloc, cnf, lines, trail, point, marks, hints, places)?;
+            Ok(conclusion)
         }
     }
 }
@@ -70,37 +71,38 @@ fn end_line(
     requires derived { IsDerived (known cnf.now lines.now) (trues trail.now.steps) [] marks.now.marked (reverse hints.items) }
     ensures { IfOk result (IsEnd cnf.now lines.now) }
 {
+    // The steps' contract says that the true literals are an assignment.
     let _ = trail.steps();
     let clause = Clause::new(alloc, &[])?;
     Ok(Line::new(clause, reversed(hints)))
 }
 
-/// The line of a turn, whose hints come last to first.
+/// The learnt clause of a unique implication point, whose hints come last to first.
 fn line_at(
     alloc: Global,
     cnf: &Cnf,
     lines: &[Line],
     trail: &Trail,
-    turn: Turn,
+    point: UniquePoint,
     marks: &mut Marks,
     mut hints: Vec<u32>,
     places: &mut Vec<u32>,
-) -> Result<Lesson, AllocError>
+) -> Result<Conclusion, AllocError>
     requires justified { AreJustified (known cnf.now lines.now) trail.now.steps }
     requires decisions { AreOpen (known cnf.now lines.now) trail.now.steps }
     requires formula { trail.now.vars ≡ cnf.now.vars }
     requires vars { marks.old.vars ≡ trail.now.vars }
     requires derived { IsDerived (known cnf.now lines.now) (trues trail.now.steps) marks.old.marked marks.old.marked (reverse hints.items) }
-    requires turn { IsTurn trail.now.steps marks.old.marked turn }
-    ensures taught { IfOk result (IsTaught cnf.now lines.now trail.now.steps) }
+    requires point { IsUniquePoint trail.now.steps marks.old.marked point }
+    ensures concluded { IfOk result (IsConclusion cnf.now lines.now trail.now.steps) }
     ensures vars { OnOk result (marks.new.vars ≡ marks.old.vars) }
 {
-    let lit = trail.steps()[turn.at].lit;
+    let lit = trail.steps()[point.at].lit;
     minimize(cnf, lines, trail, lit, marks, &mut hints, places)?;
     let keep = reach(marks, trail, lit);
     let lits = marks.negations(alloc)?;
-    let clause = Clause::new(alloc, lits.as_slice())?;
-    Ok(Lesson::Learnt {
+    let clause = Clause::from_vec(lits);
+    Ok(Conclusion::Learnt {
         line: Line::new(clause, reversed(hints)),
         lit: lit.negated(),
         keep,

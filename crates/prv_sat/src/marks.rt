@@ -12,18 +12,24 @@ use prv_propagate::{negated_place, place};
 use std::alloc::{AllocError, Global};
 use std::marker::Model;
 
+/// A literal that was never marked.
 const FREE: u8 = 0;
 
+/// A literal that is marked.
 const MARKED: u8 = 1;
 
+/// A literal whose mark was taken back.
 const GONE: u8 = 2;
 
 /// A set of literals: a list of those that were ever marked, and a table by literal that tells
 /// which of them still are.
 #[derive(Debug, Drop)]
 pub struct Marks {
+    /// How many variables the table has places for.
     vars: u32,
+    /// Under each literal one of the three marks.
     table: Vec<u8>,
+    /// The literals that were ever marked, each once.
     touched: Vec<Lit>,
 }
 

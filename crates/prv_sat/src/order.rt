@@ -14,13 +14,18 @@ use std::alloc::{AllocError, Global};
 /// At most so many free inputs are decided before other variables.
 const FEW_INPUTS: usize = 10;
 
+/// The order of decisions.
 #[derive(Drop)]
 pub struct Order {
+    /// The variables that may be decided, by activity.
     pub heap: Heap,
+    /// Under each variable whether it was last true.
     phases: Vec<bool>,
     /// The inputs that stand in clauses.
     inputs: Vec<u32>,
+    /// Those of them that are free, where they are few.
     few: Vec<u32>,
+    /// How many steps were on the trail when they were listed.
     listed_at: usize,
 }
 

@@ -6,8 +6,11 @@ const UNIT: u32 = 6;
 /// How many conflicts are left to the next restart, and where in the row it is.
 #[derive(Clone, Copy, Debug)]
 pub struct Restarts {
+    /// The conflicts that are left.
     left: u32,
+    /// The first of Knuth's pair.
     u: u32,
+    /// The second of the pair: the row's number.
     v: u32,
 }
 

@@ -21,8 +21,11 @@ use std::alloc::{AllocError, Global};
 /// What the solver knows between two conflicts.
 #[derive(Drop)]
 pub struct State {
+    /// The literals that are true.
     pub trail: Trail,
+    /// The watched literals of each clause.
     pub watches: Watches,
+    /// The lines that were learnt, none of which ever goes.
     pub lines: Vec<Line>,
     /// How many steps were propagated.
     pub done: usize,
@@ -67,6 +70,7 @@ fn model(alloc: Global, cnf: &Cnf, trail: &Trail) -> Result<Vec<bool>, AllocErro
     requires satisfied { AreSatisfied (known cnf.now []) (length cnf.now.clauses) trail.now.steps }
     ensures { IfOk result (λ v. (length v.items ≡ cnf.now.vars) × IsModel (values_of v.items) cnf.now) }
 {
+    // The steps' contract says that the true literals are an assignment.
     let _ = trail.steps();
     let values = values(alloc, cnf.vars(), trail)?;
     Ok(values)

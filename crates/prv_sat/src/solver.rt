@@ -1,16 +1,17 @@
-//! The solver.
+//! The solver: it searches to the next conflict, learns a clause from it, jumps back, and goes on, until
+//! it has a model, a refutation, or no budget.
 ghost use Rattle.std.specs.Prelude.{◌≡◌, ℕ, ◌+◌, ◌^◌, ◌<◌, ◌≤◌, ◌*◌, ◌++◌, ◌∷◌, [], length, replicate, Some, IfOk, OnOk, MatchOption};
 ghost use Rattle.prv_check.specs.LogLines.{line_numbers};
 ghost use Rattle.prv_check.specs.Spending.{AreLearnt, log_numbers};
 ghost use Rattle.prv_propagate.specs.Loading.{IsLoaded};
 ghost use Rattle.prv_check.specs.Lines.{known};
-ghost use Rattle.prv_sat.specs.Lessons.{IsEnd, IsLesson};
+ghost use Rattle.prv_sat.specs.Conclusions.{IsEnd, IsLearntClause};
 ghost use Rattle.prv_sat.specs.States.{IsState, IsReady, IsWorking};
 ghost use Rattle.prv_sat.specs.Findings.{IsFound, IsAmple, IsDecided};
 
 use crate::found::Found;
 use crate::jumps::{adopt, restart};
-use crate::learn::{Lesson, learn};
+use crate::learn::{Conclusion, learn};
 use crate::marks::Marks;
 use crate::order::Order;
 use crate::restart::Restarts;
@@ -78,10 +79,15 @@ fn run(alloc: Global, cnf: &Cnf, lines: u32, numbers: u32, inputs: u32) -> Resul
 /// All that the solver keeps.
 #[derive(Drop)]
 struct Solver {
+    /// The trail, the watches and the lines.
     state: State,
+    /// The literals that a conflict rests on; none between two conflicts.
     marks: Marks,
+    /// Scratch of the minimization.
     places: Vec<u32>,
+    /// Which literal is decided next.
     order: Order,
+    /// How long until the next restart.
     restarts: Restarts,
     /// How many numbers the lines have.
     used: u64,
@@ -121,7 +127,7 @@ fn refute(alloc: Global, cnf: &Cnf, solver: &mut Solver, conflict: u32) -> Resul
     requires vars { solver.old.marks.vars ≡ solver.old.state.trail.vars }
     ensures { IfOk result (λ found. (lines numbers : ℕ) → 0 < lines → IsFound cnf.now lines numbers found) }
 {
-    let lesson = learn(
+    let conclusion = learn(
         alloc,
         cnf,
         solver.state.lines.as_slice(),
@@ -130,12 +136,12 @@ fn refute(alloc: Global, cnf: &Cnf, solver: &mut Solver, conflict: u32) -> Resul
         &mut solver.marks,
         &mut solver.places,
     )?;
-    match lesson {
-        Lesson::Refuted(line) => {
+    match conclusion {
+        Conclusion::Refuted(line) => {
             let found = refuted(alloc, cnf, &mut solver.state, line)?;
             Ok(found)
         }
-        Lesson::Learnt { .. } => unreachable!(),
+        Conclusion::Learnt { .. } => unreachable!(),
     }
 }
 
@@ -154,7 +160,7 @@ fn advance(
         Outcome::Values(values) => return Ok(Some(Found::Values(values))),
         Outcome::Conflict(conflict) => conflict,
     };
-    let lesson = learn(
+    let conclusion = learn(
         alloc,
         cnf,
         solver.state.lines.as_slice(),
@@ -165,12 +171,12 @@ fn advance(
     )?;
     solver.order.bump_all(solver.marks.touched());
     solver.marks.clear();
-    match lesson {
-        Lesson::Refuted(line) => {
+    match conclusion {
+        Conclusion::Refuted(line) => {
             let found = refuted(alloc, cnf, &mut solver.state, line)?;
             Ok(Some(found))
         }
-        Lesson::Learnt { line, lit, keep } => {
+        Conclusion::Learnt { line, lit, keep } => {
             let found = take_up(alloc, cnf, solver, line, lit, keep, numbers)?;
             Ok(found)
         }
@@ -188,7 +194,7 @@ fn take_up(
     numbers: u32,
 ) -> Result<Option<Found>, AllocError>
     requires state { IsState cnf.now solver.old.state.lines.items solver.old.state.trail solver.old.state.watches }
-    requires lesson { IsLesson cnf.now solver.old.state.lines.items solver.old.state.trail.steps line lit keep }
+    requires clause { IsLearntClause cnf.now solver.old.state.lines.items solver.old.state.trail.steps line lit keep }
     requires learnt { AreLearnt cnf.now solver.old.state.lines.items }
     requires counted { solver.old.used ≡ log_numbers solver.old.state.lines.items }
     requires budget { solver.old.used ≤ numbers }
@@ -197,7 +203,7 @@ fn take_up(
     requires few { length (known cnf.now solver.old.state.lines.items) + 1 < 2 ^ 32 }
     ensures working { IfOk result (λ found. MatchOption found (IsWorking cnf.now solver.new.state.lines.items solver.new.state.trail solver.new.state.watches solver.new.state.done solver.new.marks solver.new.used numbers × (length solver.new.state.lines.items ≡ length solver.old.state.lines.items + 1)) (λ answer. (lines : ℕ) → length solver.old.state.lines.items < lines → IsFound cnf.now lines numbers answer)) }
 {
-    let more = solver.used + count_of(&line);
+    let more = solver.used + line.numbers();
     if more > u64::from(numbers) {
         let log = Log::new(mem::replace(&mut solver.state.lines, Vec::new(alloc)));
         return Ok(Some(Found::Spent {
@@ -234,20 +240,13 @@ fn restart_if_due(
     Ok(())
 }
 
-/// How many numbers a line has.
-fn count_of(line: &Line) -> u64
-    ensures value { result ≡ line_numbers line.now }
-    ensures bound { result < 2 ^ 63 }
-{
-    line.clause().lits().len() as u64 + line.hints().len() as u64 + 2
-}
-
 /// The lines with the empty line.
 fn refuted(alloc: Global, cnf: &Cnf, state: &mut State, line: Line) -> Result<Found, AllocError>
     requires learnt { AreLearnt cnf.now state.old.lines.items }
     requires end { IsEnd cnf.now state.old.lines.items line }
     ensures { IfOk result (λ found. (lines numbers : ℕ) → length state.old.lines.items < lines → log_numbers state.old.lines.items ≤ numbers → IsFound cnf.now lines numbers found) }
 {
+    // The formula is named by the clauses alone.
     let _ = cnf;
     let mut lines = mem::replace(&mut state.lines, Vec::new(alloc));
     lines.push(line)?;

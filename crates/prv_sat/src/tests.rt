@@ -1,3 +1,4 @@
+//! Small formulas with their models, refutations and spent budgets; each log is checked.
 use super::*;
 use prv_check::{check, check_fresh};
 use prv_cnf::{Cnf, Lit};

@@ -15,12 +15,12 @@ use Rattle.prv_run.specs.declared.event.Event.{Event}
 use Rattle.prv_run.specs.declared.event.What.TheVariants as w
 use Rattle.prv_select.specs.declared.places.Scope.{Scope}
 use Rattle.prv_select.specs.declared.places.Place.{Place}
-use Rattle.prv_select.specs.declared.marks.Marks.{Marks}
+use Rattle.prv_select.specs.declared.mark_set.MarkSet.{MarkSet}
 use Rattle.prv_select.specs.declared.walk.Walk.{Walk}
 use Rattle.prv_select.specs.Choices.{Chosen, with_vars, without, no_mark, matters, count, before, choose}
-use Rattle.prv_select.specs.Marks.{one_mark, both_marks, has_mark}
+use Rattle.prv_select.specs.MarkSets.{one_mark, both_marks, has_mark}
 use Rattle.prv_select.specs.Places.{place_at}
-use Rattle.prv_select.specs.Walks.{is_relevant, skips, Passed, sets, needs_before, is_kept, chosen, Back, back}
+use Rattle.prv_select.specs.BackwardWalks.{is_relevant, skips, Passed, sets, needs_before, is_kept, chosen, Back, back}
 use Rattle.prv_select.proofs.Masks.{AreNeeded, needed-vars, needed-set, some-needed}
 use Rattle.prv_select.proofs.MarkLaws.{has-both, has-one}
 use Rattle.prv_select.proofs.PlaceLaws.{part, marked}
@@ -157,7 +157,7 @@ module _ (places : List Place) (rows : List Row) where
 
       before_it : AreNeeded (needs_before true (row_at rows k) walk.needed) (with_vars e (without var needed))
       before_it =
-          subst (λ (m : ℕ). AreNeeded (bit_or (bit_and walk.needed (bit_not w64 m)) (row_at rows k).reads) (with_vars e (without var needed))) (sym row.set.writes)
+          subst (λ (m : ℕ). AreNeeded (bit_or (bit_and walk.needed (bit_not w64 m)) (row_at rows k).reads) (with_vars e (without var needed))) (sym row.set.overwrites)
           (subst (λ (r : ℕ). AreNeeded (bit_or (bit_and walk.needed (bit_not w64 (bit var))) r) (with_vars e (without var needed))) (sym row.reads) (needed-set walk.needed needed var e low need))
 
       by : (z : Bool) → (needed var || may_fault e) ≡ z → Keeps s walk (choose (Eval k (Sets var) e (Some n)) needed) (back places rows (x ∷ []) walk)
@@ -199,7 +199,7 @@ module _ (places : List Place) (rows : List Row) where
         marks = λ m low.
             let round = has_mark s.marks m in
             ha.marks m low
-            ∙ ap (λ (was : Bool). contribute was (ca.marks m) round (list_any (λ b. b) ca.kept)) (hb.marks m low ∙ ap (λ (q : Marks). contribute (has_mark walk.marks m) (cb.marks m) (has_mark q m) (list_any (λ b. b) cb.kept)) same)
+            ∙ ap (λ (was : Bool). contribute was (ca.marks m) round (list_any (λ b. b) ca.kept)) (hb.marks m low ∙ ap (λ (q : MarkSet). contribute (has_mark walk.marks m) (cb.marks m) (has_mark q m) (list_any (λ b. b) cb.kept)) same)
             ∙ both-more (has_mark walk.marks m) (ca.marks m) (cb.marks m) round (list_any (λ b. b) ca.kept) (list_any (λ b. b) cb.kept)
             ∙ ap (λ (any : Bool). contribute (has_mark walk.marks m) (ca.marks m || cb.marks m) round any) (sym (list_any-append (λ b. b) ca.kept cb.kept));
       })
@@ -226,7 +226,7 @@ module _ (places : List Place) (rows : List Row) where
         entered = omega arith;
         passes = shown places rows s (record mid { entered = s.depth; skipped = None }) refl refl;
         marks = λ m small.
-            ap (λ (q : Marks). has_mark q m) h.marks ∙ none-more (has_mark walk.marks m) (has_mark s.marks m)
+            ap (λ (q : MarkSet). has_mark q m) h.marks ∙ none-more (has_mark walk.marks m) (has_mark s.marks m)
             ∙ ap (λ (any : Bool). contribute (has_mark walk.marks m) false (has_mark s.marks m) any) (sym (any-none (1 + count rest)));
       }))
 

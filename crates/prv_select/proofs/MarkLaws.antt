@@ -5,19 +5,19 @@ use Rattle.std.proofs.lemmas.Grind.{get_or-set_at}
 use Rattle.std.proofs.lemmas.Nat.Bits.{bit_at-zero, bit_at-pow_same, bit_at-pow_other}
 use Rattle.std.proofs.lemmas.Bool.Decides.{nat_tests}
 use Rattle.prv_dep.specs.Tables.{has_bit}
-use Rattle.prv_select.specs.declared.marks.Marks.{Marks}
-use Rattle.prv_select.specs.Marks.{no_marks, one_mark, both_words, both_marks, has_mark}
+use Rattle.prv_select.specs.declared.mark_set.MarkSet.{MarkSet}
+use Rattle.prv_select.specs.MarkSets.{no_marks, one_mark, both_words, both_marks, has_mark}
 use Rattle.prv_select.proofs.Masks.{has-or}
 
 -- the words of both sets, at a place
-words-both : (a b : Marks) (i : ℕ) → i < 4 → slice_index (both_marks a b).words i ≡ both_words a b i
+words-both : (a b : MarkSet) (i : ℕ) → i < 4 → slice_index (both_marks a b).words i ≡ both_words a b i
 words-both a b zero low = refl
 words-both a b (suc zero) low = refl
 words-both a b (suc (suc zero)) low = refl
 words-both a b (suc (suc (suc zero))) low = refl
 words-both a b (suc (suc (suc (suc i)))) low = absurd (omega arith)
 
-pub has-both : (a b : Marks) (m : ℕ) → m < 256 → has_mark (both_marks a b) m ≡ (has_mark a m || has_mark b m)
+pub has-both : (a b : MarkSet) (m : ℕ) → m < 256 → has_mark (both_marks a b) m ≡ (has_mark a m || has_mark b m)
 has-both a b m low =
     let place : m / 64 < 4 = omega arith in
     ap (λ (n : ℕ). has_bit n (m % 64)) (words-both a b (m / 64) place) ∙ has-or _ _ (m % 64)

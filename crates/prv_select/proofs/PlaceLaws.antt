@@ -9,7 +9,7 @@ use Rattle.prv_model.specs.declared.stmt.Stmt.TheFolds.{fold-roll-Stmt, para-rol
 use Rattle.prv_model.specs.declared.stmt.Stmt.TheVariants.{Skip, Set, If, While, Return, Out, Assert, Block, Marked, rolls-Skip, rolls-Set, rolls-If, rolls-While, rolls-Return, rolls-Out, rolls-Assert, rolls-Block, rolls-Marked}
 use Rattle.prv_select.specs.declared.places.Scope.{Scope}
 use Rattle.prv_select.specs.declared.places.Place.{Place}
-use Rattle.prv_select.specs.Marks.{one_mark, both_marks}
+use Rattle.prv_select.specs.MarkSets.{one_mark, both_marks}
 use Rattle.prv_select.specs.Places.{node_inner, inner, node_places, places_inside, places_of, places_all}
 
 abbrev Inner : Type 0

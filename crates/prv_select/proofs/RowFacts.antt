@@ -8,14 +8,14 @@ use Rattle.prv_model.specs.declared.stmt.Stmt.{Stmt, roll-Stmt, map-Stmt, out-St
 use Rattle.prv_model.specs.declared.stmt.Stmt.TheOpen.{Stmt-F}
 use Rattle.prv_model.specs.declared.stmt.Stmt.TheFolds.{fold-roll-Stmt}
 use Rattle.prv_model.specs.declared.stmt.Stmt.TheVariants.{Skip, If, rolls-If}
-use Rattle.prv_dep.specs.Dependences.{vars, may_fault, may_leave, node_may_leave, writes, node_writes, branch_any}
+use Rattle.prv_dep.specs.Dependences.{vars, may_fault, may_leave, node_may_leave, writes, node_writes, overwrites, node_overwrites, branch_any}
 use Rattle.prv_dep.specs.Tables.{mask, reads, node_reads, row, row_at, dependences}
 use Rattle.prv_dep.specs.declared.writes.Row.{Row}
 use Rattle.prv_dep.proofs.MaskLaws.{mask-one}
 use Rattle.prv_dep.proofs.RowLaws.{row-of}
 use Rattle.prv_run.specs.Runs.{Run, Use, Idle, Eval, Then, Choice, Mark, Sets, Puts, Returns, Asserts, Tests}
 use Rattle.prv_run.proofs.Fitting.{node_own, own, Fits}
-use Rattle.prv_select.specs.Walks.{is_relevant}
+use Rattle.prv_select.specs.BackwardWalks.{is_relevant}
 use Rattle.prv_select.proofs.Masks.{some-needed}
 use Rattle.prv_select.proofs.Lying.{branch_writes}
 use Rattle.prv_select.proofs.Walking.{SetsRow, IsOfEval, IsOfChoice, Rows}
@@ -28,6 +28,9 @@ reads-as s d is = ap (λ (x : Stmt). reads x) (sym is) ∙ fold-roll-Stmt (List 
 
 writes-as : (s : Stmt) (d : Stmt-F Stmt) → roll-Stmt d ≡ s → writes s ≡ node_writes (map-Stmt Stmt (List ℕ) (λ y. writes y) d)
 writes-as s d is = ap (λ (x : Stmt). writes x) (sym is) ∙ fold-roll-Stmt (List ℕ) node_writes d
+
+overwrites-as : (s : Stmt) (d : Stmt-F Stmt) → roll-Stmt d ≡ s → overwrites s ≡ node_overwrites (map-Stmt Stmt (List ℕ) (λ y. overwrites y) d)
+overwrites-as s d is = ap (λ (x : Stmt). overwrites x) (sym is) ∙ fold-roll-Stmt (List ℕ) node_overwrites d
 
 leaves-as : (s : Stmt) (d : Stmt-F Stmt) → roll-Stmt d ≡ s → may_leave s ≡ node_may_leave (map-Stmt Stmt Bool (λ y. may_leave y) d)
 leaves-as s d is = ap (λ (x : Stmt). may_leave x) (sym is) ∙ fold-roll-Stmt Bool node_may_leave d
@@ -46,7 +49,11 @@ eval-row : (s : Stmt) (d : Stmt-F Stmt) → roll-Stmt d ≡ s → (u : Use × Ex
 eval-row s Stmt-F.Skip is u owns = absurd (no-own u (sym (own-as s Stmt-F.Skip is) ∙ owns))
 eval-row s (Stmt-F.Set var e) is u owns =
     eval-as s (Sets var, e) u (own-as s (Stmt-F.Set var e) is) owns (reads-as s (Stmt-F.Set var e) is)
-    (record { writes = ap (λ (vs : List ℕ). mask vs) (writes-as s (Stmt-F.Set var e) is) ∙ mask-one var; leaves = leaves-as s (Stmt-F.Set var e) is })
+    (record {
+      writes = ap (λ (vs : List ℕ). mask vs) (writes-as s (Stmt-F.Set var e) is) ∙ mask-one var;
+      overwrites = ap (λ (vs : List ℕ). mask vs) (overwrites-as s (Stmt-F.Set var e) is) ∙ mask-one var;
+      leaves = leaves-as s (Stmt-F.Set var e) is;
+    })
 eval-row s (Stmt-F.If test chosen None) is u owns = eval-as s (Tests, test) u (own-as s (Stmt-F.If test chosen None) is) owns (reads-as s (Stmt-F.If test chosen None) is) tt
 eval-row s (Stmt-F.If test chosen (Some other)) is u owns = eval-as s (Tests, test) u (own-as s (Stmt-F.If test chosen (Some other)) is) owns (reads-as s (Stmt-F.If test chosen (Some other)) is) tt
 eval-row s (Stmt-F.While test body) is u owns = eval-as s (Tests, test) u (own-as s (Stmt-F.While test body) is) owns (reads-as s (Stmt-F.While test body) is) tt

@@ -7,13 +7,13 @@ use Rattle.prv_dep.specs.declared.writes.Row.{Row}
 use Rattle.prv_run.specs.Runs.{events, run_of}
 use Rattle.prv_run.specs.declared.event.Event.{Event}
 use Rattle.prv_run.proofs.Fitting.{fits-program}
-use Rattle.prv_select.specs.declared.marks.Marks.{Marks}
+use Rattle.prv_select.specs.declared.mark_set.MarkSet.{MarkSet}
 use Rattle.prv_select.specs.declared.places.Place.{Place}
 use Rattle.prv_select.specs.declared.walk.Walk.{Walk}
 use Rattle.prv_select.specs.Choices.{choose, nothing, numbers_from, rising_below}
-use Rattle.prv_select.specs.Marks.{no_marks, has_mark}
+use Rattle.prv_select.specs.MarkSets.{no_marks, has_mark}
 use Rattle.prv_select.specs.Places.{outside, places_all}
-use Rattle.prv_select.specs.Walks.{Back, back}
+use Rattle.prv_select.specs.BackwardWalks.{Back, back}
 use Rattle.prv_select.proofs.Masks.{none-needed}
 use Rattle.prv_select.proofs.MarkLaws.{has-none}
 use Rattle.prv_select.proofs.Lying.{lies-program}
@@ -52,7 +52,7 @@ alone : (own any : Bool) → (false || (own || (false && any))) ≡ own
 alone true any = refl
 alone false any = refl
 
-marks-same : (after : Marks) (own : ℕ → Bool) (any : Bool) (n : ℕ) → ((m : ℕ) → m < n → has_mark after m ≡ (has_mark no_marks m || (own m || (has_mark no_marks m && any)))) → rising_below (λ m. has_mark after m) n ≡ rising_below own n
+marks-same : (after : MarkSet) (own : ℕ → Bool) (any : Bool) (n : ℕ) → ((m : ℕ) → m < n → has_mark after m ≡ (has_mark no_marks m || (own m || (has_mark no_marks m && any)))) → rising_below (λ m. has_mark after m) n ≡ rising_below own n
 unfolding rising_below
 marks-same after own any n same =
     filter-same (λ m. has_mark after m) own 0 n n (omega arith) (λ m low. same m low ∙ ap (λ (b : Bool). b || (own m || (b && any))) (has-none m) ∙ alone (own m) any)

@@ -4,21 +4,22 @@ use Rattle.prv_model.specs.declared.stmt.Stmt.{Stmt}
 use Rattle.prv_model.specs.declared.stmt.Stmt.TheOpen.{Stmt-F}
 use Rattle.prv_model.specs.declared.stmt.Stmt.TheFolds.{fold-roll-Stmt}
 use Rattle.prv_model.specs.declared.stmt.Stmt.TheVariants.{Skip, rolls-Skip}
-use Rattle.prv_dep.specs.Dependences.{writes, node_writes, may_leave, node_may_leave}
+use Rattle.prv_dep.specs.Dependences.{writes, node_writes, overwrites, node_overwrites, may_leave, node_may_leave}
 use Rattle.prv_dep.specs.Tables.{mask, reads, node_reads, row, row_at}
 use Rattle.prv_dep.specs.declared.writes.Row.{Row}
 use Rattle.prv_select.specs.declared.places.Place.{Place}
 use Rattle.prv_select.specs.Choices.{numbers_from, rising_below}
 use Rattle.prv_select.specs.Places.{place_at}
-use Rattle.prv_select.specs.Walks.{is_relevant, or_else, outermost}
+use Rattle.prv_select.specs.BackwardWalks.{is_relevant, or_else, outermost}
 
 -- `;` depends on nothing
-pub row-Skip : record { writes = 0; reads = 0; leaves = false } ≡ row Skip
+pub row-Skip : record { writes = 0; overwrites = 0; reads = 0; leaves = false } ≡ row Skip
 row-Skip =
     let written : 0 ≡ mask (writes Skip) = ap (λ (vs : List ℕ). mask vs) (sym (ap (λ (s : Stmt). writes s) (sym rolls-Skip) ∙ fold-roll-Stmt (List ℕ) node_writes Stmt-F.Skip)) in
+    let over : 0 ≡ mask (overwrites Skip) = ap (λ (vs : List ℕ). mask vs) (sym (ap (λ (s : Stmt). overwrites s) (sym rolls-Skip) ∙ fold-roll-Stmt (List ℕ) node_overwrites Stmt-F.Skip)) in
     let read : 0 ≡ mask (reads Skip) = ap (λ (vs : List ℕ). mask vs) (sym (ap (λ (s : Stmt). reads s) (sym rolls-Skip) ∙ fold-roll-Stmt (List ℕ) node_reads Stmt-F.Skip)) in
     let left : false ≡ may_leave Skip = sym (ap (λ (s : Stmt). may_leave s) (sym rolls-Skip) ∙ fold-roll-Stmt Bool node_may_leave Stmt-F.Skip) in
-    λ i. record { writes = written i; reads = read i; leaves = left i }
+    λ i. record { writes = written i; overwrites = over i; reads = read i; leaves = left i }
 
 or-assoc : (a b d : Option ℕ) → or_else (or_else a b) d ≡ or_else a (or_else b d)
 or-assoc None b d = refl

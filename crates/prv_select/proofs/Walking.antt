@@ -15,7 +15,7 @@ use Rattle.prv_select.specs.declared.places.Place.{Place}
 use Rattle.prv_select.specs.declared.walk.Walk.{Walk}
 use Rattle.prv_select.specs.Choices.{matters, count}
 use Rattle.prv_select.specs.Places.{place_at}
-use Rattle.prv_select.specs.Walks.{is_relevant, or_else, outermost, skips, Passed, chosen, passed_by, pass, Back, back}
+use Rattle.prv_select.specs.BackwardWalks.{is_relevant, or_else, outermost, skips, Passed, chosen, passed_by, pass, Back, back}
 use Rattle.prv_select.proofs.Masks.{AreNeeded, HaveBits}
 use Rattle.prv_select.proofs.PlaceLaws.{part, marked}
 use Rattle.prv_select.proofs.Lying.{Lies, branch_writes}
@@ -23,6 +23,7 @@ use Rattle.prv_select.proofs.Lying.{Lies, branch_writes}
 -- what is known of the rows of a run: each evaluation's row is of its expression, and each `if` has what it may write
 pub record IsOfSet (row : Row) (var : ℕ) (e : Expr) : Type 0 where
   pub writes : row.writes ≡ bit var
+  pub overwrites : row.overwrites ≡ bit var
   pub leaves : row.leaves ≡ may_fault e
 
 abbrev pub SetsRow : Row → Use → Expr → Type 0

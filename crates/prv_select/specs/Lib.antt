@@ -1,4 +1,4 @@
 pub mod Choices
-pub mod Marks
+pub mod MarkSets
 pub mod Places
-pub mod Walks
+pub mod BackwardWalks

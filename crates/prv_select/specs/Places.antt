@@ -5,7 +5,7 @@ use Rattle.prv_model.specs.declared.stmt.Stmt.TheOpen.{Stmt-F}
 use Rattle.prv_model.specs.declared.stmt.Stmt.TheFolds.{fold-Stmt, para-Stmt}
 use Rattle.prv_select.specs.declared.places.Scope.{Scope}
 use Rattle.prv_select.specs.declared.places.Place.{Place}
-use Rattle.prv_select.specs.Marks.{no_marks, one_mark, both_marks}
+use Rattle.prv_select.specs.MarkSets.{no_marks, one_mark, both_marks}
 
 -- nothing is round the statements of `main`
 abbrev pub outside : Scope

@@ -1,10 +1,11 @@
+//! The choice of a run's evaluations: the call that makes the tables, walks back, and answers.
 ghost use Rattle.std.specs.Prelude.{◌≡◌, ℕ, ℤ, List, [], ◌∷◌, ◌++◌, ◌≤◌, IfOk, OnOk, length, filter};
 ghost use Rattle.prv_dep.specs.Tables.{dependences};
 ghost use Rattle.prv_run.specs.Runs.{run_of, events as events_of};
 ghost use Rattle.prv_select.specs.Choices.{choose, nothing, rising, rising_below};
-ghost use Rattle.prv_select.specs.Marks.{has_mark};
+ghost use Rattle.prv_select.specs.MarkSets.{has_mark};
 
-use crate::marks::Marks;
+use crate::mark_set::MarkSet;
 use crate::places::places;
 use crate::walk::{Tables, Walk, walk_back};
 use prv_dep::Writes;
@@ -43,7 +44,7 @@ pub fn select(
         needed: 0,
         entered: 0,
         skipped: None,
-        marks: Marks::none(),
+        marks: MarkSet::none(),
     };
     let tables = Tables {
         places: places.as_slice(),
@@ -68,7 +69,7 @@ fn none_kept(alloc: Global, count: usize) -> Result<Items<bool>, AllocError>
 }
 
 /// The marks of a set below this number, in rising order.
-fn marks_below(alloc: Global, marks: Marks, count: u16) -> Result<Items<u8>, AllocError>
+fn marks_below(alloc: Global, marks: MarkSet, count: u16) -> Result<Items<u8>, AllocError>
     requires { count ≤ 256 }
     ensures { IfOk result (λ rising. rising ≡ rising_below (λ m. has_mark marks m) count) }
 {
@@ -80,7 +81,7 @@ fn marks_below(alloc: Global, marks: Marks, count: u16) -> Result<Items<u8>, All
 }
 
 /// Pushes a mark, if it is in a set.
-fn push_mark(marks: Marks, mark: u8, rising: &mut Items<u8>) -> Result<(), AllocError>
+fn push_mark(marks: MarkSet, mark: u8, rising: &mut Items<u8>) -> Result<(), AllocError>
     ensures { OnOk result (rising.new ≡ rising.old ++ filter (λ m. has_mark marks m) (mark ∷ [])) }
 {
     if marks.has(mark) {

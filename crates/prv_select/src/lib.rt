@@ -4,7 +4,7 @@
 
 mod choice;
 mod laws;
-mod marks;
+mod mark_set;
 mod places;
 mod walk;
 

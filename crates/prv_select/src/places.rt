@@ -1,20 +1,26 @@
+//! Where the statements of a program stand: which `if`s and marks are round each.
+//!
+//! The choice goes over a flat list of evaluations, and an evaluation names its statement alone. By this
+//! table it knows the `if`s that an evaluation lies in, each by the next one outward, and the marks round it.
 ghost use Rattle.std.specs.Prelude.{◌≡◌, ◌≤◌, ◌<◌, ◌^◌, ◌++◌, length, IfOk, OnOk};
 ghost use Rattle.prv_select.specs.Places.{outside as outside_of, inner as inner_of, places_of, places_inside, places_all, place_at};
 
-use crate::marks::Marks;
+use crate::mark_set::MarkSet;
 use prv_model::Stmt;
 use sqlite_items::{Items, at};
 use std::alloc::{AllocError, Global};
 
-/// What is round an evaluation: the nearest `if` that it is a part of, how many it is a part of, and the
-/// marks.
+/// What is round an evaluation: the `if`s that it is a part of, and the marks.
 ///
 /// The test of an `if` is a part of it, as its branches are.
 #[derive(Clone, Copy)]
 pub struct Scope {
+    /// The number of the innermost of these `if`s; the next one outward is had from its own place.
     pub nearest: Option<usize>,
+    /// How many `if`s there are.
     pub depth: usize,
-    pub marks: Marks,
+    /// The marks of the marked statements round it.
+    pub marks: MarkSet,
 }
 
 /// Where a statement stands.
@@ -57,7 +63,7 @@ fn outside() -> Scope
     Scope {
         nearest: None,
         depth: 0,
-        marks: Marks::none(),
+        marks: MarkSet::none(),
     }
 }
 
@@ -140,7 +146,7 @@ fn inner(stmt: &Stmt, number: usize, outer: Scope) -> Scope
         Stmt::Marked { mark, body: _ } => Scope {
             nearest: outer.nearest,
             depth: outer.depth,
-            marks: outer.marks.or(Marks::one(*mark)),
+            marks: outer.marks.or(MarkSet::one(*mark)),
         },
         _ => outer,
     }

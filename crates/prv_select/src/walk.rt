@@ -1,8 +1,14 @@
+//! The walk backward over the evaluations of a run that chooses those of its slice.
+//!
+//! It is dynamic slicing over a flat trace: one pass from the last evaluation to the first, with the set of
+//! the variables whose values are needed. At the last evaluation of an `if` it judges whether the `if`
+//! matters, by what the whole statement may write and whether it may leave; where it doesn't, everything is
+//! passed over up to its test, which is its first evaluation.
 ghost use Rattle.std.specs.Prelude.{◌≡◌, ◌≤◌, length, ℕ};
 ghost use Rattle.prv_dep.specs.Tables.{row_at};
-ghost use Rattle.prv_select.specs.Walks.{is_relevant as is_relevant_of, outermost as outermost_of, skips, chosen, passed_over, pass as pass_of, back};
+ghost use Rattle.prv_select.specs.BackwardWalks.{is_relevant as is_relevant_of, outermost as outermost_of, skips, chosen, passed_over, pass as pass_of, back};
 
-use crate::marks::Marks;
+use crate::mark_set::MarkSet;
 use crate::places::{Place, Scope, place_of};
 use prv_dep::Row;
 use prv_run::{Event, What};
@@ -11,7 +17,9 @@ use sqlite_items::{Items, at};
 /// What is known of each statement of a program, by its number: where it stands, and what it depends on.
 #[derive(Clone, Copy)]
 pub struct Tables<'a> {
+    /// Where each statement stands.
     pub places: &'a [Place],
+    /// What each statement depends on.
     pub rows: &'a [Row],
 }
 
@@ -25,7 +33,7 @@ pub struct Walk {
     /// The `if` that is passed over, of which the test hasn't come yet.
     pub skipped: Option<usize>,
     /// The marks that contribute.
-    pub marks: Marks,
+    pub marks: MarkSet,
 }
 
 /// Walks backward along all evaluations of a run, and says of each whether it is kept.
@@ -84,7 +92,7 @@ fn choose(event: &Event, row: Row, here: Place, walk: &mut Walk) -> bool
         return false;
     }
     walk.needed = if sets {
-        (walk.needed & !row.writes) | row.reads
+        (walk.needed & !row.overwrites) | row.reads
     } else {
         walk.needed | row.reads
     };
@@ -142,6 +150,7 @@ fn row(rows: &[Row], stmt: usize) -> Row
     match at(rows, stmt).copied() {
         None => Row {
             writes: 0,
+            overwrites: 0,
             reads: 0,
             leaves: false,
         },

@@ -1,14 +1,17 @@
 -- What the solver's answers say of a condition.
-use Rattle.std.proofs.Common.{◌≡◌, ◌≢◌, ◌↔◌, ℕ, zero, suc, ◌+◌, ◌-◌, ◌<◌, ◌≤◌, ◌++◌, ◌∷◌, [], Bool, true, false, nat_lt, List, length, Option, None, MatchOption, Result, Ok, Err, IfOk, ℤ, pos, All, replicate, map, refl, sym, ap, ◌∙◌, subst, arith, add-one, append_assoc}
+use Rattle.std.proofs.Common.{◌≡◌, ◌≢◌, ◌↔◌, ℕ, zero, suc, ◌+◌, ◌-◌, ◌<◌, ◌≤◌, ◌++◌, ◌∷◌, [], Bool, true, false, nat_lt, List, length, Option, Some, None, MatchOption, Result, Ok, Err, IfOk, ℤ, pos, All, drop, replicate, map, refl, sym, ap, ◌∙◌, subst, arith, add-one, append_assoc}
 use Rattle.std.proofs.lemmas.List.{length-append, length-replicate}
 use Rattle.std.proofs.lemmas.List.FromFn.{length-map-range_with_len}
 use Rattle.prv_bits.specs.Numbers.{word}
 use Rattle.prv_model.specs.Boards.{IsInput}
 use Rattle.prv_model.specs.Terms.{IsTerm, holds}
+use Rattle.prv_model.specs.declared.entry.Reason.{Reason}
 use Rattle.prv_model.specs.declared.entry.Reason.TheVariants as r
 use Rattle.prv_model.specs.declared.term.Term.{Term}
 use Rattle.prv_cnf.specs.Formulas.{Formula}
 use Rattle.prv_cnf.specs.Models.{IsModel}
+use Rattle.prv_check.specs.LogLines.{LogLine}
+use Rattle.prv_check.specs.Spending.{IsSpent}
 use Rattle.prv_blast.specs.Formulas.{formula}
 use Rattle.prv_blast.specs.Inputs.{input_at, variables}
 use Rattle.prv_blast.specs.Subterms.{cost, param_count}
@@ -19,7 +22,7 @@ use Rattle.prv_blast.proofs.Growing.{all-recursive, recursive-all}
 use Rattle.prv_blast.proofs.Standing.{encodes-formula, formula-within, params-over, params-least}
 use Rattle.prv_record.specs.declared.raw.Proof.TheVariants as p
 use Rattle.prv_settle.specs.Probes.{first_probe}
-use Rattle.prv_settle.specs.Answers.{IsSearched}
+use Rattle.prv_settle.specs.Answers.{IsSolved, IsSearched}
 use Rattle.prv_settle.specs.Asking.{IsAsked}
 use Rattle.prv_settle.specs.declared.answer.Answer.TheVariants.{Held, Undecided}
 use Rattle.prv_settle.proofs.Fronts.{Alike, holds-alike, all-wider}
@@ -85,6 +88,10 @@ replicate-more k w = ap (λ (m : ℕ). replicate m w) (add-one k) ∙ by k
 
 -- ---- values
 
+drop-front : (x y : List ℤ) → drop (length x) (x ++ y) ≡ y
+drop-front [] y = refl
+drop-front (w ∷ x) y = drop-front x y
+
 front-alike : (x y : List ℤ) → Alike (length x) x (x ++ y)
 front-alike [] y k below = absurd (omega (arith, below))
 front-alike (w ∷ x) y zero below = refl
@@ -104,7 +111,10 @@ held n lines condition b v x a model is input =
     let front : x ≡ input_at m v ++ replicate (n - b.params) (pos 0) = is ∙ ap (λ (k : ℕ). input_at k v ++ replicate (n - b.params) (pos 0)) a.count in
     let alike : Alike m (input_at m v) x = subst (Alike m (input_at m v)) (sym front) (subst (λ (k : ℕ). Alike k (input_at m v) (input_at m v ++ replicate (n - b.params) (pos 0))) (length-input m v) (front-alike (input_at m v) (replicate (n - b.params) (pos 0)))) in
     let inside : holds condition x ≡ true = sym (holds-alike m (input_at m v) x alike condition own) ∙ met in
-    record { shown = (input, inside); first = let P : Option (List ℤ) → Type 0 = λ o. MatchOption o (cost condition ≤ 1500000) (λ probe. x ≡ probe) in subst P (sym a.unmet) a.cheap }
+    let others : drop m x ≡ replicate (n - m) (pos 0) =
+    ap (λ (xs : List ℤ). drop m xs) front ∙ ap (λ (k : ℕ). drop k (input_at m v ++ replicate (n - b.params) (pos 0))) (sym (length-input m v)) ∙ drop-front (input_at m v) (replicate (n - b.params) (pos 0))
+    ∙ ap (λ (k : ℕ). replicate (n - k) (pos 0)) a.count in
+    record { shown = (input, inside); first = let P : Option (List ℤ) → Type 0 = λ o. MatchOption o (IsSolved n condition x) (λ probe. x ≡ probe) in subst P (sym a.unmet) (record { cheap = a.cheap; others = others }) }
 
 pub length-made : (m n : ℕ) (v : ℕ → Bool) (x : List ℤ) → m ≤ n → x ≡ input_at m v ++ replicate (n - m) (pos 0) → length x ≡ n
 length-made m n v x le is =
@@ -118,3 +128,16 @@ made-more m k v x le is =
     ap (λ (xs : List ℤ). xs ++ pos 0 ∷ []) is
     ∙ append_assoc (input_at m v) (replicate (k - m) (pos 0)) (pos 0 ∷ [])
     ∙ ap (λ (xs : List ℤ). input_at m v ++ xs) (sym (replicate-more (k - m) (pos 0)) ∙ ap (λ (j : ℕ). replicate j (pos 0)) next)
+
+-- ---- spent budgets
+
+pub spent : (n lines : ℕ) (condition : List Term) (b : Blasted) (log : List LogLine) (next : Option LogLine) (why : Reason) → IsAsked n condition b → 1 ≤ lines → lines ≤ 50000 → IsSpent b.cnf log next lines 1000000 →
+    MatchOption next (why ≡ r.Lines lines) (λ _. why ≡ r.Numbers (length log)) → IsSearched n lines condition (Undecided why (p.Spent log next))
+spent n lines condition b log None why a some budget h is =
+    let P : Reason → Type 0 = λ w. IsSearched n lines condition (Undecided w (p.Spent log None)) in
+    let made = subst (λ (f : Formula). IsSpent f log None lines 1000000) a.formula_of h in
+    subst P (sym is) (record { shown = (a.unmet, (some, budget, a.cheap, made)); first = refl })
+spent n lines condition b log (Some s) why a some budget h is =
+    let P : Reason → Type 0 = λ w. IsSearched n lines condition (Undecided w (p.Spent log (Some s))) in
+    let made = subst (λ (f : Formula). IsSpent f log (Some s) lines 1000000) a.formula_of h in
+    subst P (sym is) (record { shown = (a.unmet, (refl, a.cheap, record { learnt = made.learnt; within = made.within; reached = made.reached })); first = tt })

@@ -103,7 +103,7 @@ decided_term terms n agree = if agree then term_at terms n else negation (term_a
 
 pub halves-are : (pair : Pair) (region : List Term) (t : List ℤ) (cut : Cut) (mid last : Table) (n first second : ℕ) (agree : Bool) → Makes (decided_term cut.pool.terms n agree) cut.pool mid (Ok first) →
     Makes (negation (term_at mid.terms first)) mid last (Ok second) → IsCut pair region t cut → agree ≡ agree_at pair t → StandsFor cut.pool.terms n (equality (slice_before pair t) (slice_after pair t)) →
-    AreHalves pair region t (record { cut = record cut { pool = last }; first = first; second = second })
+    AreHalves pair region t (record { cut = record cut { pool = last }; first = first; second = second; agree = agree })
 halves-are pair region t cut mid last n first second agree one two h same stands =
     let old = cut.pool in
     let make = decided_term old.terms n agree in
@@ -116,6 +116,7 @@ halves-are pair region t cut mid last n first second agree one two h same stands
       cut = cut-on pair region t cut last (grows-on old.terms mid.terms last.terms begun later) h;
       first = stands-on mid.terms last.terms first (decided_equality pair t) later (subst (StandsFor mid.terms first) is one.stands);
       second = subst (StandsFor last.terms second) (ap negation at) two.stands;
+      agree = same;
     }
 
 -- what the partition says by itself

@@ -12,6 +12,8 @@ pub mod Running
 pub mod Assembling
 pub mod Stepping
 pub mod Halving
+pub mod Budgeting
+pub mod OnBoards
 pub mod NodeLists
 pub mod Rests
 pub mod Equating

@@ -19,7 +19,7 @@ use Rattle.prv_pool.specs.Tables.{Table, IsTable, Makes, has_term, term_at}
 use Rattle.prv_sym.specs.Calls.{AllStand}
 use Rattle.prv_sym.proofs.Naming.{Grows, term-kept, still-in, there, made-in, made-at}
 use Rattle.prv_general.specs.Answers.{terms_at}
-use Rattle.prv_general.specs.Walks.{node_is_one}
+use Rattle.prv_general.specs.Conditions.{node_is_one}
 use Rattle.prv_part.specs.Literals.{without_repeats}
 use Rattle.prv_settle.specs.Making.{AreNodes, AreMarked, with_negations}
 use Rattle.prv_settle.proofs.Nodes.{first-node, other-nodes, contains-term}

@@ -18,7 +18,7 @@ use Rattle.prv_settle.specs.Answers.{IsShown}
 use Rattle.prv_settle.specs.Grounds.{other_part}
 use Rattle.prv_settle.specs.Settlings.{raw_by, IsRecordAt, IsRecordBy, IsRecord}
 use Rattle.prv_settle.specs.Stages.{Stage, Wide, Literals, Beyond, Granted, Open, stage}
-use Rattle.prv_settle.specs.Supported.{raw_parts, parts_terms, proof_numbers, finding_of, IsSupported}
+use Rattle.prv_settle.specs.Supported.{raw_parts, parts_terms, proof_numbers, finding_of, IsSupported, IsKept}
 use Rattle.prv_settle.specs.declared.answer.Answer.{Answer}
 use Rattle.prv_settle.specs.declared.answer.Answer.TheVariants.{Held, Refuted, Undecided}
 use Rattle.prv_settle.proofs.Supporting.{supported-true}
@@ -74,12 +74,15 @@ record-small pair region raw h short =
     let is = by-found pair region raw.entry raw h.0 h.1 h.2 in
     omega (arith, is.member, is.other, short, choice-short raw.shape)
 
-pub supported : (pair : Pair) (region : List Term) (raw : Raw) → IsRecord (IsShown pair.before.params) pair region raw.entry raw → proof_length raw.proof ≤ 16960004 → IsSupported (finding_of pair region raw) raw
-supported pair region raw h short = record { grounds = h; gives = refl; small = record-small pair region raw h short }
+supported : (pair : Pair) (region : List Term) (raw : Raw) → IsRecord (IsShown pair.before.params) pair region raw.entry raw → IsSupported (finding_of pair region raw) raw
+supported pair region raw h = record { grounds = h; gives = refl }
 
-pub sealed : (pair : Pair) (region : List Term) (raw : Raw) → AllByRecursion (IsTerm pair.before.params) region → length region ≤ 2 ^ 48 → (finding_of pair region raw).numbers < 2 ^ 62 →
-    IsRecord (IsShown pair.before.params) pair region raw.entry raw → proof_length raw.proof ≤ 16960004 → IsSettlement (finding_of pair region raw)
-sealed pair region raw known few small h short = supported-true (finding_of pair region raw) raw known few small (supported pair region raw h short)
+kept : (pair : Pair) (region : List Term) (raw : Raw) → IsRecord (IsShown pair.before.params) pair region raw.entry raw → proof_length raw.proof ≤ 16960004 → IsKept (finding_of pair region raw) raw
+kept pair region raw h short = record { supported = supported pair region raw h; small = record-small pair region raw h short }
+
+sealed : (pair : Pair) (region : List Term) (raw : Raw) → AllByRecursion (IsTerm pair.before.params) region → length region ≤ 2 ^ 48 → (finding_of pair region raw).numbers < 2 ^ 62 →
+    IsRecord (IsShown pair.before.params) pair region raw.entry raw → IsSettlement (finding_of pair region raw)
+sealed pair region raw known few small h = supported-true (finding_of pair region raw) raw known few small (supported pair region raw h)
 
 -- ---- the settlement that is made
 
@@ -92,11 +95,11 @@ module _ (pair : Pair) (region : List Term) (raw : Raw) (parts : List Part) (ter
   pub made-is : finding pair raw.entry region raw.member raw.shape parts (terms + n) ≡ finding_of pair region raw
   made-is = λ i. finding pair raw.entry region raw.member raw.shape (are i) (sums i)
 
-  pub made-true : AllByRecursion (IsTerm pair.before.params) region → length region ≤ 2 ^ 48 → terms + n < 2 ^ 62 → IsRecord (IsShown pair.before.params) pair region raw.entry raw → proof_length raw.proof ≤ 16960004 →
+  pub made-true : AllByRecursion (IsTerm pair.before.params) region → length region ≤ 2 ^ 48 → terms + n < 2 ^ 62 → IsRecord (IsShown pair.before.params) pair region raw.entry raw →
       IsSettlement (finding pair raw.entry region raw.member raw.shape parts (terms + n))
-  made-true known few small h short =
+  made-true known few small h =
       let within : (finding_of pair region raw).numbers < 2 ^ 62 = subst (λ (m : ℕ). m < 2 ^ 62) sums small in
-      subst IsSettlement (sym made-is) (sealed pair region raw known few within h short)
+      subst IsSettlement (sym made-is) (sealed pair region raw known few within h)
 
-  pub made-supported : IsRecord (IsShown pair.before.params) pair region raw.entry raw → proof_length raw.proof ≤ 16960004 → (f : Finding) → f ≡ finding pair raw.entry region raw.member raw.shape parts (terms + n) → IsSupported f raw
-  made-supported h short f is = subst (λ (g : Finding). IsSupported g raw) (sym (is ∙ made-is)) (supported pair region raw h short)
+  pub made-kept : IsRecord (IsShown pair.before.params) pair region raw.entry raw → proof_length raw.proof ≤ 16960004 → (f : Finding) → f ≡ finding pair raw.entry region raw.member raw.shape parts (terms + n) → IsKept f raw
+  made-kept h short f is = subst (λ (g : Finding). IsKept g raw) (sym (is ∙ made-is)) (kept pair region raw h short)

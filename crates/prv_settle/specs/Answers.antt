@@ -1,12 +1,12 @@
 -- What may be said of a condition: an input that meets it, a log that refutes it, or why neither was found.
-use Rattle.std.specs.Prelude.{◌≡◌, ⊤, ℕ, ◌<◌, ◌≤◌, true, List, length, Some, None, MatchOption}
+use Rattle.std.specs.Prelude.{◌≡◌, ⊤, ℕ, ◌-◌, ◌<◌, ◌≤◌, true, List, length, drop, replicate, ℤ, pos, Some, None, MatchOption}
 use Rattle.prv_model.specs.Boards.{IsInput}
 use Rattle.prv_model.specs.Terms.{holds}
 use Rattle.prv_model.specs.declared.entry.Reason.{Reason}
 use Rattle.prv_model.specs.declared.entry.Reason.TheVariants.{Lines, Numbers, Clauses}
 use Rattle.prv_model.specs.declared.term.Term.{Term}
 use Rattle.prv_blast.specs.Formulas.{formula}
-use Rattle.prv_blast.specs.Subterms.{cost}
+use Rattle.prv_blast.specs.Subterms.{cost, param_count}
 use Rattle.prv_blast.specs.declared.formula.TheConstants.{MAX_CLAUSES}
 use Rattle.prv_check.specs.Spending.{IsSpent}
 use Rattle.prv_record.specs.declared.raw.Proof.{Proof}
@@ -32,9 +32,14 @@ IsShown n condition (Held x) = IsInput n x × (holds condition x ≡ true)
 IsShown n condition (Refuted log) = IsRefuted condition log
 IsShown n condition (Undecided why proof) = (first_probe n condition ≡ None) × Explains condition why proof
 
--- it comes of a search with so many lines: the first probe is taken where there is one, else the solver is asked, within its cost
+-- an input of n words that the solver was asked for, within its cost: the words past the parameters of the condition are 0
+pub record IsSolved (n : ℕ) (condition : List Term) (x : List ℤ) : Type 0 where
+  pub cheap : cost condition ≤ MAX_CLAUSES
+  pub others : drop (param_count condition) x ≡ replicate (n - param_count condition) (pos 0)
+
+-- it comes of a search with so many lines: the first probe is taken where there is one, else the solver is asked
 abbrev pub IsFirst : ℕ → ℕ → List Term → Answer → Type 0
-IsFirst n lines condition (Held x) = MatchOption (first_probe n condition) (cost condition ≤ MAX_CLAUSES) (λ probe. x ≡ probe)
+IsFirst n lines condition (Held x) = MatchOption (first_probe n condition) (IsSolved n condition x) (λ probe. x ≡ probe)
 IsFirst n lines condition (Refuted log) = length log ≤ lines
 IsFirst n lines condition (Undecided (Lines budget) proof) = budget ≡ lines
 IsFirst n lines condition (Undecided why proof) = ⊤

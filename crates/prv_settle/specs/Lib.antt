@@ -2,10 +2,14 @@ pub mod Probes
 pub mod Counts
 pub mod Grounds
 pub mod Answers
+pub mod Tasks
 pub mod Asking
 pub mod Stages
 pub mod Settlings
 pub mod Supported
+pub mod Budgets
+pub mod Boards
 pub mod Making
+pub mod Steps
 pub mod Pairings
 pub mod Halving

@@ -59,4 +59,8 @@ finding_of pair region raw = record {
 pub record IsSupported (f : Finding) (raw : Raw) : Type 0 where
   pub grounds : IsRecord (IsShown f.pair.before.params) f.pair f.region raw.entry raw
   pub gives : f ≡ finding_of f.pair f.region raw
+
+-- a settlement with its record: the record supports it, and is small enough for a journal
+pub record IsKept (f : Finding) (raw : Raw) : Type 0 where
+  pub supported : IsSupported f raw
   pub small : payload_length raw ≤ MAX_PAYLOAD

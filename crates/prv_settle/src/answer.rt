@@ -1,3 +1,6 @@
+//! What a search says of a condition. The search for an input of a region and that for an input of the other half of a
+//! partition have the same answers, and differ in what is made of them.
+
 use prv_check::Log;
 use prv_model::{Input, Reason};
 use prv_record::Proof;

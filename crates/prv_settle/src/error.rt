@@ -1,3 +1,6 @@
+//! Why a settlement isn't made. A settlement always comes to something; what is refused is an input that isn't the
+//! region's.
+
 use std::alloc::AllocError;
 use thiserror::Error;
 

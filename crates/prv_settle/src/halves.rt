@@ -2,31 +2,30 @@
 //! input that was run, and the others.
 ghost use Rattle.std.specs.Prelude.{◌≡◌, ◌≢◌, ◌<◌, ◌≤◌, ◌^◌, ◌++◌, ◌∷◌, [], ℤ, List, length, All, IfOk, Some, true, false};
 ghost use Rattle.std.specs.Arc.{arc_value};
-ghost use Rattle.prv_model.specs.Boards.{IsInput};
-ghost use Rattle.prv_model.specs.Terms.{IsTerm, holds};
+ghost use Rattle.prv_model.specs.Terms.{IsTerm};
 ghost use Rattle.prv_model.specs.declared.program.Pair.{Pair as ThePair};
 ghost use Rattle.prv_model.specs.declared.term.Term.{Term};
 ghost use Rattle.prv_sym.specs.Calls.{StandsFor};
 ghost use Rattle.prv_part.specs.Literals.{agree_at as agree_at_of, equality as equality_of, slice_before, slice_after};
-ghost use Rattle.prv_settle.specs.Answers.{IsSearched, IsShown};
+ghost use Rattle.prv_settle.specs.Answers.{IsSearched};
 ghost use Rattle.prv_settle.specs.Counts.{is_wide, has_many_literals, is_beyond};
 ghost use Rattle.prv_settle.specs.Grounds.{other_part};
 ghost use Rattle.prv_settle.specs.Halving.{AreHalves};
 ghost use Rattle.prv_settle.specs.Making.{AreRuns, IsCut};
-ghost use Rattle.prv_settle.specs.Settlings.{IsRecord, IsSettledAt, raw_of as the_raw};
-ghost use Rattle.prv_settle.specs.Supported.{finding_of};
+ghost use Rattle.prv_settle.specs.Settlings.{raw_of as the_raw};
+ghost use Rattle.prv_settle.specs.Steps.{IsMember, SettlesAt, IsSettlingAt};
 
 use crate::answer::Answer;
 use crate::cut::Cut;
-use crate::limits::MAX_LINES;
 use crate::partition::{decided, is_granted, marks_of, partition, with_node};
 use crate::record::{kind_of, seal, split_parts, whole_parts};
 use crate::runs::Runs;
 use crate::search::search;
 use crate::settled::Settled;
-use prv_model::{Input, Pair};
+use crate::task::{Options, Task};
+use prv_model::Input;
 use prv_part::Shape;
-use prv_pool::{Cond, Pool, Region};
+use prv_pool::{Cond, Pool};
 use prv_record::{Proof, Raw, RawOther};
 use std::alloc::{AllocError, Global};
 use std::sync::Arc;
@@ -35,9 +34,14 @@ use std::sync::Arc;
 /// the node of its negation.
 #[derive(Drop)]
 pub(crate) struct Halves {
+    /// The partition.
     pub(crate) cut: Cut,
+    /// The node that says that the versions compare as they do at the input that was run.
     pub(crate) first: u32,
+    /// The node of its negation.
     pub(crate) second: u32,
+    /// Whether the versions agree at the input that was run.
+    pub(crate) agree: bool,
 }
 
 /// The partition of the input that was run.
@@ -78,7 +82,12 @@ pub(crate) fn halve(mut cut: Cut, equality: u32, agree: bool) -> Result<Halves, 
         Err(_) => return Err(AllocError),
     };
     match cut.pool.not(first) {
-        Ok(second) => Ok(Halves { cut, first, second }),
+        Ok(second) => Ok(Halves {
+            cut,
+            first,
+            second,
+            agree,
+        }),
         Err(_) => Err(AllocError),
     }
 }
@@ -86,68 +95,40 @@ pub(crate) fn halve(mut cut: Cut, equality: u32, agree: bool) -> Result<Halves, 
 /// Settles a region by the halves of a partition that is neither too large nor beyond the bound on turns.
 pub(crate) fn settle_halves(
     alloc: Global,
-    pair: &Arc<Pair>,
-    entry: u32,
-    region: &Region,
-    lines: u32,
+    task: &Task<'_>,
     member: Input,
     halves: Halves,
-    agree: bool,
 ) -> Result<Settled, AllocError>
-    requires known { All (IsTerm (arc_value pair.now).before.params) region.now }
-    requires few { length region.now ≤ 2 ^ 48 }
-    requires some { 1 ≤ lines }
-    requires budget { lines ≤ MAX_LINES }
-    requires input { IsInput (arc_value pair.now).before.params member }
-    requires inside { holds region.now member ≡ true }
-    requires halves { AreHalves (arc_value pair.now) region.now member halves }
-    requires agree { agree ≡ agree_at_of (arc_value pair.now) member }
-    requires narrow { is_wide (arc_value pair.now) region.now member ≡ false }
-    requires literals { has_many_literals (arc_value pair.now) member ≡ false }
-    requires short { is_beyond (arc_value pair.now) member ≡ false }
-    ensures settled { IfOk result (λ s. IsSettledAt (arc_value pair.now) region.now entry lines member s.raw) }
-    ensures finding { IfOk result (λ s. s.finding ≡ finding_of (arc_value pair.now) region.now s.raw) }
+    requires member { IsMember task.now member }
+    requires halves { AreHalves (arc_value task.now.pair.now) task.now.region.now member halves }
+    requires narrow { is_wide (arc_value task.now.pair.now) task.now.region.now member ≡ false }
+    requires literals { has_many_literals (arc_value task.now.pair.now) member ≡ false }
+    requires short { is_beyond (arc_value task.now.pair.now) member ≡ false }
+    ensures { IfOk result (IsSettlingAt task.now member) }
 {
     if is_granted(
         &halves.cut.pool,
         halves.cut.partition.as_slice(),
         halves.first,
     ) {
-        return whole(
-            alloc,
-            pair,
-            entry,
-            region,
-            member,
-            halves.cut,
-            agree,
-            Proof::None,
-        );
+        let settled = whole(alloc, task, member, halves, Proof::None)?;
+        return Ok(settled);
     }
-    match search_second(alloc, pair.before.params, &halves, lines)? {
+    let params = task.pair.before.params;
+    match search_second(alloc, params, &halves, task.options)? {
         Answer::Refuted(log) => {
-            let proof = Proof::Log(log);
-            whole(alloc, pair, entry, region, member, halves.cut, agree, proof)
+            let settled = whole(alloc, task, member, halves, Proof::Log(log))?;
+            Ok(settled)
         }
         Answer::Held(input) => {
             let other = RawOther::Member(input);
-            split(
-                alloc,
-                pair,
-                entry,
-                region,
-                member,
-                halves,
-                agree,
-                other,
-                Proof::None,
-            )
+            let settled = split(alloc, task, member, halves, other, Proof::None)?;
+            Ok(settled)
         }
         Answer::Undecided(reason, proof) => {
             let other = RawOther::Reason(reason);
-            split(
-                alloc, pair, entry, region, member, halves, agree, other, proof,
-            )
+            let settled = split(alloc, task, member, halves, other, proof)?;
+            Ok(settled)
         }
     }
 }
@@ -157,17 +138,15 @@ fn search_second(
     alloc: Global,
     params: u8,
     halves: &Halves,
-    lines: u32,
+    options: Options,
 ) -> Result<Answer, AllocError>
     requires words { params ≤ 8 }
     requires halves { (pair : ThePair) × (region : List Term) × (t : List ℤ) × AreHalves pair region t halves.now × All (IsTerm params) (other_part pair region t) × (length (other_part pair region t) ≤ 2 ^ 49) }
-    requires some { 1 ≤ lines }
-    requires budget { lines ≤ MAX_LINES }
     ensures { (pair : ThePair) (region : List Term) (t : List ℤ) → AreHalves pair region t halves.now →
-        IfOk result (λ answer. IsSearched params lines (other_part pair region t) answer) }
+        IfOk result (λ answer. IsSearched params options.lines (other_part pair region t) answer) }
 {
     let cond = cond_of(alloc, halves.cut.partition.as_slice(), halves.second)?;
-    let answer = search(alloc, &halves.cut.pool, &cond, params, lines)?;
+    let answer = search(alloc, &halves.cut.pool, &cond, params, options)?;
     Ok(answer)
 }
 
@@ -183,65 +162,52 @@ fn cond_of(alloc: Global, nodes: &[u32], node: u32) -> Result<Cond, AllocError>
 /// The settlement of a region whose partition has one claim.
 fn whole(
     alloc: Global,
-    pair: &Arc<Pair>,
-    entry: u32,
-    region: &Region,
+    task: &Task<'_>,
     member: Input,
-    cut: Cut,
-    agree: bool,
+    halves: Halves,
     proof: Proof,
 ) -> Result<Settled, AllocError>
-    requires grounds { IsRecord (IsShown (arc_value pair.now).before.params) (arc_value pair.now) region.now entry (the_raw entry Shape.Whole (Some member) RawOther.None proof) }
-    requires known { All (IsTerm (arc_value pair.now).before.params) region.now }
-    requires few { length region.now ≤ 2 ^ 48 }
-    requires cut { IsCut (arc_value pair.now) region.now member cut }
-    requires agree { agree ≡ agree_at_of (arc_value pair.now) member }
-    ensures { let raw = the_raw entry Shape.Whole (Some member) RawOther.None proof in
-        IfOk result (λ s. s ≡ record { finding = finding_of (arc_value pair.now) region.now raw; raw = raw }) }
+    requires member { IsMember task.now member }
+    requires settled { SettlesAt task.now member (the_raw task.now.entry Shape.Whole (Some member) RawOther.None proof) }
+    requires halves { AreHalves (arc_value task.now.pair.now) task.now.region.now member halves }
+    ensures { IfOk result (IsSettlingAt task.now member) }
 {
-    let kind = kind_of(alloc, agree, &member)?;
-    let parts = whole_parts(alloc, kind, cut)?;
+    let kind = kind_of(alloc, halves.agree, &member)?;
+    let parts = whole_parts(alloc, kind, halves.cut)?;
     let raw = Raw {
-        entry,
+        entry: task.entry,
         shape: Shape::Whole,
         member: Some(member),
         other: RawOther::None,
         proof,
     };
-    let settled = seal(alloc, pair, region, raw, parts)?;
+    let settled = seal(alloc, task, raw, parts)?;
     Ok(settled)
 }
 
 /// The settlement of a region whose partition is cut in two, with what is shown of the second half.
 fn split(
     alloc: Global,
-    pair: &Arc<Pair>,
-    entry: u32,
-    region: &Region,
+    task: &Task<'_>,
     member: Input,
     halves: Halves,
-    agree: bool,
     other: RawOther,
     proof: Proof,
 ) -> Result<Settled, AllocError>
-    requires grounds { IsRecord (IsShown (arc_value pair.now).before.params) (arc_value pair.now) region.now entry (the_raw entry Shape.Split (Some member) other proof) }
-    requires known { All (IsTerm (arc_value pair.now).before.params) region.now }
-    requires few { length region.now ≤ 2 ^ 48 }
-    requires halves { AreHalves (arc_value pair.now) region.now member halves }
-    requires agree { agree ≡ agree_at_of (arc_value pair.now) member }
+    requires member { IsMember task.now member }
+    requires settled { SettlesAt task.now member (the_raw task.now.entry Shape.Split (Some member) other proof) }
+    requires halves { AreHalves (arc_value task.now.pair.now) task.now.region.now member halves }
     requires shown { other ≢ RawOther.None }
-    ensures { let raw = the_raw entry Shape.Split (Some member) other proof in
-        IfOk result (λ s. s ≡ record { finding = finding_of (arc_value pair.now) region.now raw; raw = raw }) }
+    ensures { IfOk result (IsSettlingAt task.now member) }
 {
-    let Halves { cut, first, second } = halves;
-    let parts = split_parts(alloc, agree, &member, &other, first, second, cut)?;
+    let parts = split_parts(alloc, halves, &member, &other)?;
     let raw = Raw {
-        entry,
+        entry: task.entry,
         shape: Shape::Split,
         member: Some(member),
         other,
         proof,
     };
-    let settled = seal(alloc, pair, region, raw, parts)?;
+    let settled = seal(alloc, task, raw, parts)?;
     Ok(settled)
 }

@@ -17,12 +17,15 @@ mod runs;
 mod search;
 mod settled;
 mod settling;
+mod task;
 
 pub use error::SettleAtError;
 pub use laws::{
-    granted_partitions_have_no_other_part, refuted_conditions_have_no_input,
+    boards_and_records_determine_settlements, granted_partitions_have_no_other_part,
+    open_entries_take_supported_settlements, refuted_conditions_have_no_input,
     settled_regions_are_supported, supported_settlements_are_true,
 };
 pub use limits::{MAX_LINES, MAX_NODES, MAX_NUMBERS, MAX_PAYLOAD};
 pub use settled::Settled;
-pub use settling::{Options, settle, settle_at};
+pub use settling::{settle, settle_at};
+pub use task::Options;

@@ -1,3 +1,6 @@
+//! The limits of one settlement. They bound its time and memory, and with them what a journal has to hold and a later
+//! check to read.
+
 /// The most distinct terms that are made for one settlement.
 pub const MAX_NODES: u32 = 20_000;
 

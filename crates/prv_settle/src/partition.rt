@@ -4,7 +4,7 @@ ghost use Rattle.std.specs.List.{list_any};
 ghost use Rattle.prv_pool.specs.Folding.{is_number, negation};
 ghost use Rattle.prv_pool.specs.Tables.{Makes, term_at, has_term};
 ghost use Rattle.prv_general.specs.Answers.{terms_at};
-ghost use Rattle.prv_general.specs.Walks.{node_is_one};
+ghost use Rattle.prv_general.specs.Conditions.{node_is_one};
 ghost use Rattle.prv_part.specs.Literals.{without_repeats};
 ghost use Rattle.prv_select.specs.Choices.{rising};
 ghost use Rattle.prv_settle.specs.Making.{AreNodes, AreMarked};

@@ -1,7 +1,7 @@
-//! Settlements with their records, shape by shape.
-ghost use Rattle.std.specs.Prelude.{◌≡◌, ◌+◌, ◌*◌, ◌<◌, ◌≤◌, ◌^◌, ◌∷◌, [], ◌++◌, length, Some, None, All, IfOk, IfSome};
+//! Settlements with their records, shape by shape. The record says what was found and by what it is proved; the parts
+//! are made from the nodes of the partition, and the settlement has both.
+ghost use Rattle.std.specs.Prelude.{◌≡◌, ◌+◌, ◌*◌, ◌<◌, ◌≤◌, ◌^◌, ◌∷◌, [], ◌++◌, length, IfOk, IfSome};
 ghost use Rattle.std.specs.Arc.{arc_value};
-ghost use Rattle.prv_model.specs.Terms.{IsTerm};
 ghost use Rattle.prv_pool.specs.Tables.{term_at};
 ghost use Rattle.prv_check.specs.LogLines.{line_numbers};
 ghost use Rattle.prv_check.specs.Spending.{log_numbers as log_numbers_of};
@@ -9,16 +9,17 @@ ghost use Rattle.prv_part.specs.Parts.{unmarked as unmarked_of};
 ghost use Rattle.prv_part.specs.Settlements.{finding, IsSettlement};
 ghost use Rattle.prv_record.specs.Payloads.{proof_length};
 ghost use Rattle.prv_general.specs.Answers.{terms_at};
-ghost use Rattle.prv_settle.specs.Answers.{IsShown};
 ghost use Rattle.prv_settle.specs.Making.{AreNodes, claimed, second_of, parts_from};
-ghost use Rattle.prv_settle.specs.Settlings.{IsRecord};
-ghost use Rattle.prv_settle.specs.Supported.{raw_parts, parts_terms, proof_numbers as proof_numbers_of, finding_of};
+ghost use Rattle.prv_settle.specs.Steps.{MaySettle, sealed};
+ghost use Rattle.prv_settle.specs.Supported.{raw_parts, parts_terms, proof_numbers as proof_numbers_of};
 
 use crate::cut::Cut;
+use crate::halves::Halves;
 use crate::parts::{Terms, add_rests, decided_part, unmarked};
 use crate::settled::Settled;
+use crate::task::Task;
 use prv_check::{Line, Log};
-use prv_model::{Input, Kind, Pair};
+use prv_model::{Input, Kind};
 use prv_part::{Part, Settlement, Shape};
 use prv_pool::Region;
 use prv_record::{Proof, Raw, RawOther};
@@ -28,7 +29,9 @@ use std::sync::Arc;
 /// Parts, and the count of their distinct terms.
 #[derive(Drop)]
 pub(crate) struct Parts {
+    /// The parts, in order.
     pub(crate) list: Vec<Part>,
+    /// How many distinct terms stand in their regions, with their subterms.
     pub(crate) terms: u32,
 }
 
@@ -37,30 +40,21 @@ pub(crate) struct Parts {
 /// A proof of too many numbers, which no search gives, is answered as want of memory.
 pub(crate) fn seal(
     alloc: Global,
-    pair: &Arc<Pair>,
-    region: &Region,
+    task: &Task<'_>,
     raw: Raw,
     parts: Parts,
 ) -> Result<Settled, AllocError>
-    requires grounds { IsRecord (IsShown (arc_value pair.now).before.params) (arc_value pair.now) region.now raw.entry raw }
-    requires known { All (IsTerm (arc_value pair.now).before.params) region.now }
-    requires few { length region.now ≤ 2 ^ 48 }
-    requires parts { parts.list.items ≡ raw_parts (arc_value pair.now) region.now raw }
+    requires grounds { MaySettle task.now raw }
+    requires parts { parts.list.items ≡ raw_parts (arc_value task.now.pair.now) task.now.region.now raw }
     requires terms { parts.terms ≡ length (parts_terms parts.list.items) }
-    ensures { IfOk result (λ s. s ≡ record { finding = finding_of (arc_value pair.now) region.now raw; raw = raw }) }
+    ensures { IfOk result (λ s. s ≡ sealed task.now raw) }
 {
     let Parts { list, terms } = parts;
     match proof_numbers(&raw.proof) {
         None => Err(AllocError),
         Some(numbers) => {
-            let settlement = settlement_of(
-                alloc,
-                pair,
-                region,
-                &raw,
-                list,
-                u64::from(terms) + numbers,
-            )?;
+            let numbers = u64::from(terms) + numbers;
+            let settlement = settlement_of(alloc, task, &raw, list, numbers)?;
             let settled = Settled::new(alloc, settlement, raw)?;
             Ok(settled)
         }
@@ -70,17 +64,16 @@ pub(crate) fn seal(
 /// The settlement of the shape that a record names.
 fn settlement_of(
     alloc: Global,
-    pair: &Arc<Pair>,
-    region: &Region,
+    task: &Task<'_>,
     raw: &Raw,
     parts: Vec<Part>,
     numbers: u64,
 ) -> Result<Settlement, AllocError>
-    requires { IsSettlement (finding (arc_value pair.now) raw.now.entry region.now raw.now.member raw.now.shape parts.items numbers) }
-    ensures { IfOk result (λ s. s ≡ finding (arc_value pair.now) raw.now.entry region.now raw.now.member raw.now.shape parts.items numbers) }
+    requires { IsSettlement (finding (arc_value task.now.pair.now) raw.now.entry task.now.region.now raw.now.member raw.now.shape parts.items numbers) }
+    ensures { IfOk result (λ s. s ≡ finding (arc_value task.now.pair.now) raw.now.entry task.now.region.now raw.now.member raw.now.shape parts.items numbers) }
 {
-    let pair = Arc::try_clone(pair)?;
-    let region = region.share()?;
+    let pair = Arc::try_clone(task.pair)?;
+    let region = task.region.share()?;
     match (raw.shape, copied(alloc, &raw.member)?) {
         (Shape::Empty, _) => Settlement::empty(pair, raw.entry, region, parts, numbers),
         (Shape::Stuck, member) => {
@@ -147,31 +140,34 @@ pub(crate) fn whole_parts(alloc: Global, kind: Kind, cut: Cut) -> Result<Parts, 
     })
 }
 
-/// Both halves of the partition with their claims, and the rests. The halves are those of the decided
+/// Both halves of a partition with their claims, and the rests. The halves are those of the decided
 /// equality and of its negation.
 pub(crate) fn split_parts(
     alloc: Global,
-    agree: bool,
+    halves: Halves,
     member: &Input,
     other: &RawOther,
-    first: u32,
-    second: u32,
-    cut: Cut,
 ) -> Result<Parts, AllocError>
-    requires region { cut.region ≤ length cut.partition.items }
-    requires nodes { AreNodes cut.pool.terms cut.partition.items }
-    requires first { first < length cut.pool.terms }
-    requires second { second < length cut.pool.terms }
-    ensures list { IfOk result (λ parts. parts.list.items ≡ parts_from cut.region (terms_at cut.pool.terms cut.partition.items) (
-        record { region = terms_at cut.pool.terms cut.partition.items ++ term_at cut.pool.terms first ∷ []; kind = claimed agree member.now; marks = cut.marks.items }
-        ∷ second_of agree other.now cut.marks.items (terms_at cut.pool.terms cut.partition.items ++ term_at cut.pool.terms second ∷ []) ∷ [])) }
+    requires region { halves.cut.region ≤ length halves.cut.partition.items }
+    requires nodes { AreNodes halves.cut.pool.terms halves.cut.partition.items }
+    requires first { halves.first < length halves.cut.pool.terms }
+    requires second { halves.second < length halves.cut.pool.terms }
+    ensures list { let cut = halves.cut in
+        IfOk result (λ parts. parts.list.items ≡ parts_from cut.region (terms_at cut.pool.terms cut.partition.items) (
+        record { region = terms_at cut.pool.terms cut.partition.items ++ term_at cut.pool.terms halves.first ∷ []; kind = claimed halves.agree member.now; marks = cut.marks.items }
+        ∷ second_of halves.agree other.now cut.marks.items (terms_at cut.pool.terms cut.partition.items ++ term_at cut.pool.terms halves.second ∷ []) ∷ [])) }
     ensures terms { IfOk result (λ parts. parts.terms ≡ length (parts_terms parts.list.items)) }
 {
+    let Halves {
+        cut,
+        first,
+        second,
+        agree,
+    } = halves;
     let region = cut.region;
     let literals = cut.literals();
     let marks = Vec::from_slice(alloc, cut.marks.as_slice())?;
-    let halves = [first, second];
-    let terms = cut.into_terms(alloc, &halves)?;
+    let terms = cut.into_terms(alloc, &[first, second])?;
     let all = region + literals;
     let mut list = Vec::new(alloc);
     let half = terms.front_with(alloc, all, all)?;

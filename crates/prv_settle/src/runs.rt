@@ -1,5 +1,7 @@
-//! The runs of both versions at an input, as slices over one pool.
+//! The runs of both versions at an input, as slices over one pool. All terms of a settlement are made here, in one order,
+//! since their count decides whether the settlement is made at all.
 ghost use Rattle.std.specs.Prelude.{◌≡◌, ◌+◌, ◌<◌, ◌||◌, [], nat_lt, true, false, length, IfOk, MatchOption};
+ghost use Rattle.std.specs.Arc.{arc_value};
 ghost use Rattle.prv_model.specs.Boards.{IsInput};
 ghost use Rattle.prv_model.specs.Comparison.{is_long as is_long_of};
 ghost use Rattle.prv_sym.specs.Calls.{Names};
@@ -8,6 +10,7 @@ ghost use Rattle.prv_settle.specs.Making.{AreRuns};
 
 use crate::equality::equality;
 use crate::limits::{MAX_NODES, MORE_NODES};
+use crate::task::Task;
 use prv_general::{MAX_LITERALS, Slice, slice_at};
 use prv_model::{Ending, Input, Pair};
 use prv_pool::{Cond, Pool, PoolError, Region};
@@ -16,27 +19,30 @@ use std::alloc::{AllocError, Global};
 /// The nodes of a region, of the slices of both versions at one of its inputs, and of their equality.
 #[derive(Drop)]
 pub(crate) struct Runs {
+    /// The region's nodes.
     pub(crate) region: Cond,
+    /// The slice of the old version.
     pub(crate) before: Slice,
+    /// The slice of the new version.
     pub(crate) after: Slice,
+    /// The node that says that both put out the same.
     pub(crate) equality: u32,
 }
 
 /// Runs both versions at an input of a region. There is no answer where the terms are too many.
 pub(crate) fn run_both(
     alloc: Global,
-    pair: &Pair,
-    region: &Region,
+    task: &Task<'_>,
     input: &Input,
     pool: &mut Pool,
 ) -> Result<Option<Runs>, AllocError>
     requires fresh { pool.old ≡ record { terms = []; max_nodes = MAX_NODES + MORE_NODES } }
-    requires input { IsInput pair.now.before.params input.now }
-    ensures runs { IfOk result (λ found. MatchOption found (is_wide pair.now region.now input.now ≡ true)
-        (λ made. (is_wide pair.now region.now input.now ≡ false) × AreRuns pair.now region.now input.now pool.new made)) }
+    requires input { IsInput (arc_value task.now.pair.now).before.params input.now }
+    ensures runs { IfOk result (λ found. MatchOption found (is_wide (arc_value task.now.pair.now) task.now.region.now input.now ≡ true)
+        (λ made. (is_wide (arc_value task.now.pair.now) task.now.region.now input.now ≡ false) × AreRuns (arc_value task.now.pair.now) task.now.region.now input.now pool.new made)) }
     ensures limit { pool.new.max_nodes ≡ pool.old.max_nodes }
 {
-    match make_runs(alloc, pair, region, input, pool) {
+    match make_runs(alloc, task.pair, task.region, input, pool) {
         Ok(runs) => {
             if pool.len() > MAX_NODES {
                 Ok(None)

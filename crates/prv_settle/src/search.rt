@@ -1,20 +1,20 @@
-//! The search for an input that meets a condition.
-ghost use Rattle.std.specs.Prelude.{◌≡◌, ◌+◌, ◌*◌, ◌<◌, ◌≤◌, ◌^◌, ◌++◌, ◌-◌, None, List, length, map, replicate, pos, All, IfOk, MatchOption};
+//! The search for an input that meets a condition. A few fixed inputs are tried first, since they cost one evaluation
+//! of the terms each; only where none of them serves is the condition turned into clauses and the solver asked.
+ghost use Rattle.std.specs.Prelude.{◌≡◌, ◌≤◌, ◌++◌, ◌-◌, None, List, length, map, replicate, pos, IfOk, MatchOption};
 ghost use Rattle.prv_model.specs.Boards.{IsInput};
-ghost use Rattle.prv_model.specs.Terms.{IsTerm};
 ghost use Rattle.prv_model.specs.declared.entry.Reason.TheVariants as r;
 ghost use Rattle.prv_model.specs.declared.term.Term.{Term};
 ghost use Rattle.prv_cnf.specs.Models.{values_of};
 ghost use Rattle.prv_pool.specs.Tables.{term_at};
 ghost use Rattle.prv_blast.specs.Inputs.{input_at};
-ghost use Rattle.prv_blast.specs.Formulas.{formula};
 ghost use Rattle.prv_settle.specs.Probes.{first_probe as first_probe_of};
 ghost use Rattle.prv_settle.specs.Answers.{IsSearched};
-ghost use Rattle.prv_settle.specs.Asking.{IsAsked};
+ghost use Rattle.prv_settle.specs.Asking.{IsAsked, IsCondition};
 
 use crate::answer::Answer;
-use crate::limits::{MAX_LINES, MAX_NUMBERS};
+use crate::limits::MAX_NUMBERS;
 use crate::probe::first_probe;
+use crate::task::Options;
 use prv_blast::{BlastError, Blasted, MAX_CLAUSES, blast};
 use prv_check::{Line, Log};
 use prv_model::{Input, Reason};
@@ -23,27 +23,22 @@ use prv_record::Proof;
 use prv_sat::{Found, solve_from};
 use std::alloc::{AllocError, Global};
 
-/// Searches for an input of so many words that meets a condition, with a budget of lines: the probes are
-/// tried, and then the solver is asked.
+/// Searches for an input of so many words that meets a condition, within a budget: the probes are tried,
+/// and then the solver is asked.
 pub(crate) fn search(
     alloc: Global,
     pool: &Pool,
     cond: &Cond,
     params: u8,
-    lines: u32,
+    options: Options,
 ) -> Result<Answer, AllocError>
-    requires nodes { All (λ n. n < length pool.now.terms) cond.now }
-    requires few { length cond.now ≤ 2 ^ 49 }
-    requires words { params ≤ 8 }
-    requires params { All (IsTerm params) (map (term_at pool.now.terms) cond.now) }
-    requires some { 1 ≤ lines }
-    requires budget { lines ≤ MAX_LINES }
-    ensures { IfOk result (λ answer. IsSearched params lines (map (term_at pool.now.terms) cond.now) answer) }
+    requires { IsCondition params pool.now.terms cond.now }
+    ensures { IfOk result (λ answer. IsSearched params options.lines (map (term_at pool.now.terms) cond.now) answer) }
 {
     match first_probe(alloc, pool, cond, params)? {
         Some(probe) => Ok(Answer::Held(probe)),
         None => {
-            let answer = solved(alloc, pool, cond, params, lines)?;
+            let answer = solved(alloc, pool, cond, params, options)?;
             Ok(answer)
         }
     }
@@ -55,20 +50,15 @@ fn solved(
     pool: &Pool,
     cond: &Cond,
     params: u8,
-    lines: u32,
+    options: Options,
 ) -> Result<Answer, AllocError>
-    requires nodes { All (λ n. n < length pool.now.terms) cond.now }
-    requires few { length cond.now ≤ 2 ^ 49 }
-    requires words { params ≤ 8 }
-    requires params { All (IsTerm params) (map (term_at pool.now.terms) cond.now) }
-    requires some { 1 ≤ lines }
-    requires budget { lines ≤ MAX_LINES }
+    requires condition { IsCondition params pool.now.terms cond.now }
     requires unmet { first_probe_of params (map (term_at pool.now.terms) cond.now) ≡ None }
-    ensures { IfOk result (λ answer. IsSearched params lines (map (term_at pool.now.terms) cond.now) answer) }
+    ensures { IfOk result (λ answer. IsSearched params options.lines (map (term_at pool.now.terms) cond.now) answer) }
 {
     match blast(alloc, pool, cond) {
         Ok(blasted) => {
-            let answer = solved_formula(alloc, &blasted, params, lines)?;
+            let answer = solved_formula(alloc, &blasted, params, options)?;
             Ok(answer)
         }
         Err(BlastError::Clauses { count }) => Ok(Answer::Undecided(
@@ -84,22 +74,20 @@ fn solved_formula(
     alloc: Global,
     blasted: &Blasted,
     params: u8,
-    lines: u32,
+    options: Options,
 ) -> Result<Answer, AllocError>
-    requires asked { (condition : List Term) × IsAsked params condition blasted.now }
-    requires some { 1 ≤ lines }
-    requires budget { lines ≤ MAX_LINES }
-    ensures { (condition : List Term) → IsAsked params condition blasted.now → IfOk result (λ answer. IsSearched params lines condition answer) }
+    requires { (condition : List Term) × IsAsked params condition blasted.now }
+    ensures { (condition : List Term) → IsAsked params condition blasted.now → IfOk result (λ answer. IsSearched params options.lines condition answer) }
 {
     let inputs = 32 * u32::from(blasted.params);
-    match solve_from(alloc, &blasted.cnf, lines, MAX_NUMBERS, inputs)? {
+    match solve_from(alloc, &blasted.cnf, options.lines, MAX_NUMBERS, inputs)? {
         Found::Values(values) => {
             let input = input_of(alloc, blasted, values.as_slice(), params)?;
             Ok(Answer::Held(input))
         }
         Found::Refuted(log) => Ok(Answer::Refuted(log)),
         Found::Spent { log, next } => {
-            let why = reason(&log, &next, lines);
+            let why = reason(&log, &next, options.lines);
             Ok(Answer::Undecided(why, Proof::Spent { log, next }))
         }
     }

@@ -1,6 +1,10 @@
-ghost use Rattle.std.specs.Prelude.{◌≡◌, ◌<◌, IfOk};
+//! A settlement beside the record that supports it. A board takes the settlement, a journal the record; whoever has
+//! both need not ask again whether they belong together.
+ghost use Rattle.std.specs.Prelude.{◌≡◌, ◌≤◌, IfOk};
 ghost use Rattle.std.specs.Arc.{arc_value};
-ghost use Rattle.prv_settle.specs.Supported.{IsSupported};
+ghost use Rattle.prv_record.specs.Payloads.{payload_length};
+ghost use Rattle.prv_settle.specs.Supported.{IsSupported, IsKept};
+ghost use Rattle.prv_settle.specs.declared.limits.TheConstants.{MAX_PAYLOAD};
 
 use prv_part::Settlement;
 use prv_record::{Proof, Raw};
@@ -12,13 +16,15 @@ use std::sync::Arc;
 /// seen as both.
 #[derive(Drop)]
 pub struct Settled {
+    /// The settlement, shared with the boards that took it.
     inner: Arc<Settlement>,
+    /// Its record.
     raw: Raw,
 }
 
 impl Model for Settled {
     ghost use Rattle.std.specs.Arc.{arc_value};
-    ghost use Rattle.prv_settle.specs.Supported.{IsSupported};
+    ghost use Rattle.prv_settle.specs.Supported.{IsKept};
     ghost use Rattle.prv_settle.specs.Pairings.{Supported, supported_code};
 
     ghost Value = { Supported };
@@ -27,7 +33,7 @@ impl Model for Settled {
 
     ghost view = { λ s. record { finding = arc_value s.inner; raw = s.raw } };
 
-    ghost invariant = { λ s. IsSupported (arc_value s.inner) s.raw };
+    ghost invariant = { λ s. IsKept (arc_value s.inner) s.raw };
 }
 
 impl Settled {
@@ -37,7 +43,7 @@ impl Settled {
         settlement: Settlement,
         raw: Raw,
     ) -> Result<Settled, AllocError>
-        requires { IsSupported settlement raw }
+        requires { IsKept settlement raw }
         ensures { IfOk result (λ s. s ≡ record { finding = settlement; raw = raw }) }
     {
         Ok(Settled {
@@ -54,9 +60,10 @@ impl Settled {
         &self.inner
     }
 
-    /// Its record.
+    /// Its record. That it is small enough for a journal is handed out here.
     pub fn raw(&self) -> &Raw
-        ensures { result.now ≡ self.now.raw }
+        ensures value { result.now ≡ self.now.raw }
+        ensures small { payload_length self.now.raw ≤ MAX_PAYLOAD }
     {
         &self.raw
     }
@@ -66,5 +73,16 @@ impl Settled {
         ensures { result.now ≡ self.now.raw.proof }
     {
         &self.raw.proof
+    }
+
+    /// Takes both apart, without a copy.
+    pub fn into_parts(self) -> (Arc<Settlement>, Raw)
+        ensures settlement { arc_value result.0 ≡ self.finding }
+        ensures raw { result.1 ≡ self.raw }
+        ensures supported { IsSupported self.finding self.raw }
+        ensures small { payload_length self.raw ≤ MAX_PAYLOAD }
+    {
+        let Settled { inner, raw } = self;
+        (inner, raw)
     }
 }

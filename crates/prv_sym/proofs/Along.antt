@@ -12,7 +12,7 @@ use Rattle.prv_pool.specs.Tables.{Table}
 use Rattle.prv_pool.specs.declared.error.PoolError.{PoolError}
 use Rattle.prv_pool.specs.declared.error.PoolError.TheVariants.{Memory}
 use Rattle.prv_sym.specs.declared.evaluations.Walk.{Walk}
-use Rattle.prv_sym.specs.declared.nodes.Slot.{Slot}
+use Rattle.prv_sym.specs.declared.symbol_nodes.Slot.{Slot}
 use Rattle.prv_sym.specs.Calls.{Names, IsSlot, AreSlots, AllStand, slot_term, terms_of}
 use Rattle.prv_sym.specs.Named.{run_named}
 use Rattle.prv_sym.specs.Symbols.{params_from, start_terms}

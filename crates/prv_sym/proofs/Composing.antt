@@ -11,8 +11,8 @@ use Rattle.prv_model.specs.declared.term.Term.TheVariants.{Num}
 use Rattle.prv_pool.specs.Folding.{folded_pick, truth}
 use Rattle.prv_pool.specs.Tables.{Table, term_at}
 use Rattle.prv_pool.specs.declared.error.PoolError.{PoolError}
-use Rattle.prv_sym.specs.declared.nodes.Nodes.{Nodes}
-use Rattle.prv_sym.specs.declared.nodes.Slot.{Slot}
+use Rattle.prv_sym.specs.declared.symbol_nodes.SymbolNodes.{SymbolNodes}
+use Rattle.prv_sym.specs.declared.symbol_nodes.Slot.{Slot}
 use Rattle.prv_sym.specs.Calls.{Names, StandsFor, AreIn, AreSlots, symbol_at, terms_of, variable_term}
 use Rattle.prv_sym.specs.Named.{named, node_named, unary_named, class_named, safety_named, pick_named}
 use Rattle.prv_sym.specs.Symbols.{Symbol, symbol, node_symbol, unary_term, class_of, binary_term, binary_safe, class_term, class_safe, pick_safe}
@@ -56,41 +56,41 @@ module _ (env : List Term) where
   named-Pick c x y = at named _ _ (sym (e.rolls-Pick c x y)) ∙ ap (λ (f : List Term → List Term). f env) (para-roll-Expr (List Term → List Term) node_named (Expr-F.Pick c x y))
 
 -- a call gives the nodes of a symbol and names these terms
-pub record Said (s : Symbol) (more : List Term) (old new : Table) (r : Result Nodes PoolError) : Type 0 where
+pub record Said (s : Symbol) (more : List Term) (old new : Table) (r : Result SymbolNodes PoolError) : Type 0 where
   pub value : IfOk r (λ n. StandsFor new.terms n.value s.term)
   pub safe : IfOk r (λ n. StandsFor new.terms n.safe s.safe)
   pub names : Names more old new r
 
-pub said-as : (s t : Symbol) (a b : List Term) (old new : Table) (r : Result Nodes PoolError) → s ≡ t → a ≡ b → Said s a old new r → Said t b old new r
+pub said-as : (s t : Symbol) (a b : List Term) (old new : Table) (r : Result SymbolNodes PoolError) → s ≡ t → a ≡ b → Said s a old new r → Said t b old new r
 said-as s t a b old new r is same h = subst (λ (x : Symbol). Said x b old new r) is (subst (λ (xs : List Term). Said s xs old new r) same h)
 
 -- an expression that is another one
-pub said-of : (d f : Expr) (env : List Term) (old new : Table) (r : Result Nodes PoolError) → d ≡ f → Said (symbol f env) (named f env) old new r → Said (symbol d env) (named d env) old new r
+pub said-of : (d f : Expr) (env : List Term) (old new : Table) (r : Result SymbolNodes PoolError) → d ≡ f → Said (symbol f env) (named f env) old new r → Said (symbol d env) (named d env) old new r
 said-of d f env old new r is h = subst (λ (x : Expr). Said (symbol x env) (named x env) old new r) (sym is) h
 
 -- a number, as the call was given it
-pub said-number : (m n : ℤ) (env : List Term) (old new : Table) (r : Result Nodes PoolError) → m ≡ n → Said (record { term = Num m; safe = Num (pos 1) }) (Num m ∷ Num (pos 1) ∷ []) old new r →
+pub said-number : (m n : ℤ) (env : List Term) (old new : Table) (r : Result SymbolNodes PoolError) → m ≡ n → Said (record { term = Num m; safe = Num (pos 1) }) (Num m ∷ Num (pos 1) ∷ []) old new r →
     Said (symbol (e.Num n) env) (named (e.Num n) env) old new r
 said-number m n env old new r is h =
     said-as _ _ _ _ old new r (sym (symbol-Num env n)) (sym (named-Num env n))
     (subst (λ (k : ℤ). Said (record { term = Num k; safe = Num (pos 1) }) (Num k ∷ Num (pos 1) ∷ []) old new r) is h)
 
 -- one call and then another
-said-then : (s t : Symbol) (a b : List Term) (old mid new : Table) (x : Nodes) (r : Result Nodes PoolError) → Said s a old mid (Ok x) → Said t b mid new r → Said t (a ++ b) old new r
+said-then : (s t : Symbol) (a b : List Term) (old mid new : Table) (x : SymbolNodes) (r : Result SymbolNodes PoolError) → Said s a old mid (Ok x) → Said t b mid new r → Said t (a ++ b) old new r
 said-then s t a b old mid new x r first second = record {
   value = second.value;
   safe = second.safe;
   names = names-then a b old mid new x r first.names second.names;
 }
 
-symbol-is : (s : Symbol) (more : List Term) (old mid : Table) (x : Nodes) → Said s more old mid (Ok x) → symbol_at mid.terms x ≡ s
+symbol-is : (s : Symbol) (more : List Term) (old mid : Table) (x : SymbolNodes) → Said s more old mid (Ok x) → symbol_at mid.terms x ≡ s
 symbol-is s more old mid x h = λ i. record { term = stands-at mid.terms x.value s.term h.value i; safe = stands-at mid.terms x.safe s.safe h.safe i }
 
-pub said-in : (s : Symbol) (more : List Term) (old mid : Table) (x : Nodes) → Said s more old mid (Ok x) → AreIn mid.terms x
+pub said-in : (s : Symbol) (more : List Term) (old mid : Table) (x : SymbolNodes) → Said s more old mid (Ok x) → AreIn mid.terms x
 said-in s more old mid x h = (stands-in mid.terms x.value s.term h.value, stands-in mid.terms x.safe s.safe h.safe)
 
 -- the terms of variables in a table that has grown
-pub moved : (e : Expr) (slots : List Slot) (old mid new : Table) (r : Result Nodes PoolError) → Grows old.terms mid.terms → AreSlots old.terms slots →
+pub moved : (e : Expr) (slots : List Slot) (old mid new : Table) (r : Result SymbolNodes PoolError) → Grows old.terms mid.terms → AreSlots old.terms slots →
     Said (symbol e (terms_of mid.terms slots)) (named e (terms_of mid.terms slots)) mid new r → Said (symbol e (terms_of old.terms slots)) (named e (terms_of old.terms slots)) mid new r
 moved e slots old mid new r grows are h =
     let same = terms-kept old.terms mid.terms grows slots are in
@@ -105,7 +105,7 @@ pub names-of : {A : Type 0} (d e : Expr) (env : List Term) (old new : Table) (r 
 names-of d e env old new r is h = names-as _ _ old new r (ap (λ (x : Expr). named x env) is) h
 
 -- from the operands to the expression
-pub said-Un : (op : UnOp) (a : Expr) (env : List Term) (old mid new : Table) (x : Nodes) (r : Result Nodes PoolError) → Said (symbol a env) (named a env) old mid (Ok x) →
+pub said-Un : (op : UnOp) (a : Expr) (env : List Term) (old mid new : Table) (x : SymbolNodes) (r : Result SymbolNodes PoolError) → Said (symbol a env) (named a env) old mid (Ok x) →
     Said (record { term = unary_term op (term_at mid.terms x.value); safe = term_at mid.terms x.safe }) (unary_named op (term_at mid.terms x.value)) mid new r →
     Said (symbol (e.Un op a) env) (named (e.Un op a) env) old new r
 said-Un op a env old mid new x r one two =
@@ -114,7 +114,7 @@ said-Un op a env old mid new x r one two =
     (said-then _ _ _ _ old mid new x r one
     (said-as _ _ _ _ mid new r (λ i. record { term = unary_term op (q i).term; safe = (q i).safe }) (λ i. unary_named op (q i).term) two))
 
-pub said-Bin : (op : BinOp) (a b : Expr) (env : List Term) (old first second new : Table) (x y : Nodes) (r : Result Nodes PoolError) →
+pub said-Bin : (op : BinOp) (a b : Expr) (env : List Term) (old first second new : Table) (x y : SymbolNodes) (r : Result SymbolNodes PoolError) →
     Said (symbol a env) (named a env) old first (Ok x) → Said (symbol b env) (named b env) first second (Ok y) →
     Said (record { term = class_term (class_of op) (term_at second.terms x.value) (term_at second.terms y.value); safe = class_safe (class_of op) (symbol_at second.terms x) (symbol_at second.terms y) })
     (class_named (class_of op) (term_at second.terms x.value) (term_at second.terms y.value) ++ safety_named (class_of op) (symbol_at second.terms x) (symbol_at second.terms y)) second new r →
@@ -127,7 +127,7 @@ said-Bin op a b env old first second new x y r one two three =
     (said-as _ _ _ _ second new r (λ i. record { term = class_term (class_of op) (p i).term (q i).term; safe = class_safe (class_of op) (p i) (q i) })
     (λ i. class_named (class_of op) (p i).term (q i).term ++ safety_named (class_of op) (p i) (q i)) three)))
 
-pub said-Pick : (test a b : Expr) (env : List Term) (old first second third new : Table) (c x y : Nodes) (r : Result Nodes PoolError) →
+pub said-Pick : (test a b : Expr) (env : List Term) (old first second third new : Table) (c x y : SymbolNodes) (r : Result SymbolNodes PoolError) →
     Said (symbol test env) (named test env) old first (Ok c) → Said (symbol a env) (named a env) first second (Ok x) → Said (symbol b env) (named b env) second third (Ok y) →
     Said (record { term = folded_pick (truth (term_at third.terms c.value)) (term_at third.terms x.value) (term_at third.terms y.value); safe = pick_safe (symbol_at third.terms c) (symbol_at third.terms x) (symbol_at third.terms y) })
     (pick_named (symbol_at third.terms c) (symbol_at third.terms x) (symbol_at third.terms y)) third new r →
@@ -143,15 +143,15 @@ said-Pick test a b env old first second third new c x y r one two three four =
     (λ i. pick_named (o i) (p i) (q i)) four))))
 
 -- one of the operands is refused
-pub first-refused : (more a rest : List Term) (old new : Table) (p : PoolError) → more ≡ a ++ rest → Names {A = Nodes} a old new (Err p) → Names {A = Nodes} more old new (Err p)
-first-refused more a rest old new p is one = subst (λ (xs : List Term). Names {A = Nodes} xs old new (Err p)) (sym is) (names-stop a rest old new p one)
+pub first-refused : (more a rest : List Term) (old new : Table) (p : PoolError) → more ≡ a ++ rest → Names {A = SymbolNodes} a old new (Err p) → Names {A = SymbolNodes} more old new (Err p)
+first-refused more a rest old new p is one = subst (λ (xs : List Term). Names {A = SymbolNodes} xs old new (Err p)) (sym is) (names-stop a rest old new p one)
 
-pub second-refused : (more a b rest : List Term) (old mid new : Table) (x : Nodes) (p : PoolError) → more ≡ a ++ (b ++ rest) → Names a old mid (Ok x) → Names {A = Nodes} b mid new (Err p) → Names {A = Nodes} more old new (Err p)
+pub second-refused : (more a b rest : List Term) (old mid new : Table) (x : SymbolNodes) (p : PoolError) → more ≡ a ++ (b ++ rest) → Names a old mid (Ok x) → Names {A = SymbolNodes} b mid new (Err p) → Names {A = SymbolNodes} more old new (Err p)
 second-refused more a b rest old mid new x p is one two =
-    subst (λ (xs : List Term). Names {A = Nodes} xs old new (Err p)) (sym is) (names-then a (b ++ rest) old mid new x (Err p) one (names-stop b rest mid new p two))
+    subst (λ (xs : List Term). Names {A = SymbolNodes} xs old new (Err p)) (sym is) (names-then a (b ++ rest) old mid new x (Err p) one (names-stop b rest mid new p two))
 
-pub third-refused : (more a b d rest : List Term) (old mid far new : Table) (x y : Nodes) (p : PoolError) → more ≡ a ++ (b ++ (d ++ rest)) → Names a old mid (Ok x) → Names b mid far (Ok y) →
-    Names {A = Nodes} d far new (Err p) → Names {A = Nodes} more old new (Err p)
+pub third-refused : (more a b d rest : List Term) (old mid far new : Table) (x y : SymbolNodes) (p : PoolError) → more ≡ a ++ (b ++ (d ++ rest)) → Names a old mid (Ok x) → Names b mid far (Ok y) →
+    Names {A = SymbolNodes} d far new (Err p) → Names {A = SymbolNodes} more old new (Err p)
 third-refused more a b d rest old mid far new x y p is one two three =
-    subst (λ (xs : List Term). Names {A = Nodes} xs old new (Err p)) (sym is)
+    subst (λ (xs : List Term). Names {A = SymbolNodes} xs old new (Err p)) (sym is)
     (names-then a (b ++ (d ++ rest)) old mid new x (Err p) one (names-then b (d ++ rest) mid far new y (Err p) two (names-stop d rest far new p three)))

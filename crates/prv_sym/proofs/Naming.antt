@@ -8,7 +8,7 @@ use Rattle.prv_model.specs.declared.term.Term.TheFolds.{para-roll-Term, ind-Term
 use Rattle.prv_pool.specs.Tables.{Table, Makes, has_term, term_at, add_term, add_terms, node_added}
 use Rattle.prv_pool.specs.declared.error.PoolError.{PoolError}
 use Rattle.prv_pool.specs.declared.error.PoolError.TheVariants.{Wide}
-use Rattle.prv_sym.specs.declared.nodes.Nodes.{Nodes}
+use Rattle.prv_sym.specs.declared.symbol_nodes.SymbolNodes.{SymbolNodes}
 use Rattle.prv_sym.specs.Calls.{Names, StandsFor, AreIn, symbol_at}
 
 -- a list that has got a term has its front as before
@@ -193,8 +193,8 @@ pub stands-as : (terms : List Term) (t u : Term) (r : Result ℕ PoolError) → 
 stands-as terms t u r is h = subst (λ (x : Term). IfOk r (λ n. StandsFor terms n x)) is h
 
 -- two nodes in a table that has grown
-pub symbol-kept : (old new : List Term) (x : Nodes) → Grows old new → AreIn old x → symbol_at new x ≡ symbol_at old x
+pub symbol-kept : (old new : List Term) (x : SymbolNodes) → Grows old new → AreIn old x → symbol_at new x ≡ symbol_at old x
 symbol-kept old new x h is = λ i. record { term = term-kept old new x.value h is.0 i; safe = term-kept old new x.safe h is.1 i }
 
-pub in-kept : (old new : List Term) (x : Nodes) → Grows old new → AreIn old x → AreIn new x
+pub in-kept : (old new : List Term) (x : SymbolNodes) → Grows old new → AreIn old x → AreIn new x
 in-kept old new x h is = (still-in old new x.value h is.0, still-in old new x.safe h is.1)

@@ -3,7 +3,7 @@ use Rattle.std.proofs.Common.{◌≡◌, ℕ, zero, suc, ◌<◌, List, [], ◌�
 use Rattle.prv_model.specs.declared.term.Term.{Term}
 use Rattle.prv_pool.specs.Tables.{Table, term_at}
 use Rattle.prv_pool.proofs.TableLemmas.{add-there, has-term_at}
-use Rattle.prv_sym.specs.declared.nodes.Slot.{Slot}
+use Rattle.prv_sym.specs.declared.symbol_nodes.Slot.{Slot}
 use Rattle.prv_sym.specs.Calls.{Names, StandsFor, IsSlot, AreSlots, slot_term, terms_of, variable_term}
 use Rattle.prv_sym.proofs.Naming.{Grows, grows-none, term-kept, still-in, there}
 

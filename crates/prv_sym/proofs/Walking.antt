@@ -16,8 +16,8 @@ use Rattle.prv_pool.specs.Tables.{Table, add_terms, term_at}
 use Rattle.prv_pool.specs.declared.error.PoolError.{PoolError}
 use Rattle.prv_pool.specs.declared.error.PoolError.TheVariants.{Memory}
 use Rattle.prv_sym.specs.declared.evaluations.Walk.{Walk}
-use Rattle.prv_sym.specs.declared.nodes.Nodes.{Nodes}
-use Rattle.prv_sym.specs.declared.nodes.Slot.{Slot}
+use Rattle.prv_sym.specs.declared.symbol_nodes.SymbolNodes.{SymbolNodes}
+use Rattle.prv_sym.specs.declared.symbol_nodes.Slot.{Slot}
 use Rattle.prv_sym.specs.Calls.{Names, StandsFor, AreSlots, AllStand, terms_of}
 use Rattle.prv_sym.specs.Named.{named, run_named, run_symbols}
 use Rattle.prv_sym.specs.Symbols.{symbol, after}
@@ -141,9 +141,9 @@ terms-by terms n t is (Some v) true slots = terms-set terms n slots v ∙ ap (λ
 terms-by terms n t is (Some v) false slots = refl
 
 -- a walk goes on by one evaluation
-pub reached-on : (first old mid : Table) (walk next : Walk) (w : Walked) (o : Own) (safe : Bool) (nodes : Nodes) → Reached first old walk w →
+pub reached-on : (first old mid : Table) (walk next : Walk) (w : Walked) (o : Own) (safe : Bool) (nodes : SymbolNodes) → Reached first old walk w →
     StandsFor mid.terms nodes.value (symbol o.expr (terms_of old.terms walk.slots)).term → StandsFor mid.terms nodes.safe (symbol o.expr (terms_of old.terms walk.slots)).safe →
-    Names {A = Nodes} (named o.expr (terms_of old.terms walk.slots)) old mid (Ok nodes) →
+    Names {A = SymbolNodes} (named o.expr (terms_of old.terms walk.slots)) old mid (Ok nodes) →
     next.values ≡ walk.values ++ nodes.value ∷ [] → next.safes ≡ walk.safes ++ nodes.safe ∷ [] → next.slots ≡ slots_by o.sets safe nodes.value walk.slots →
     Reached first mid next (with_own o safe w)
 reached-on first old mid walk next w o safe nodes r value safety names vs ss slots =

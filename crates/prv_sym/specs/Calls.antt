@@ -4,8 +4,8 @@ use Rattle.prv_model.specs.declared.term.Term.{Term}
 use Rattle.prv_model.specs.declared.term.Term.TheVariants.{Param, Num}
 use Rattle.prv_pool.specs.Tables.{Table, add_terms, term_at}
 use Rattle.prv_pool.specs.declared.error.PoolError.{PoolError}
-use Rattle.prv_sym.specs.declared.nodes.Nodes.{Nodes}
-use Rattle.prv_sym.specs.declared.nodes.Slot.{Slot}
+use Rattle.prv_sym.specs.declared.symbol_nodes.SymbolNodes.{SymbolNodes}
+use Rattle.prv_sym.specs.declared.symbol_nodes.Slot.{Slot}
 use Rattle.prv_sym.specs.Symbols.{Symbol}
 use Rattle.prv_pool.specs.declared.error.PoolError.TheVariants.{Wide}
 
@@ -22,11 +22,11 @@ abbrev pub StandsFor : List Term → ℕ → Term → Type 0
 StandsFor terms n t = slice_get terms n ≡ Some t
 
 -- both nodes are of the table
-abbrev pub AreIn : List Term → Nodes → Type 0
+abbrev pub AreIn : List Term → SymbolNodes → Type 0
 AreIn terms x = (x.value < length terms) × (x.safe < length terms)
 
 -- the symbol that two nodes stand for
-abbrev pub symbol_at : List Term → Nodes → Symbol
+abbrev pub symbol_at : List Term → SymbolNodes → Symbol
 symbol_at terms x = record { term = term_at terms x.value; safe = term_at terms x.safe }
 
 -- the term of a variable by its slot

@@ -9,7 +9,7 @@ use Rattle.prv_run.specs.declared.event.Event.{Event}
 use Rattle.prv_pool.specs.Tables.{Table, add_terms}
 use Rattle.prv_sym.specs.declared.statements.Evaluation.{Evaluation}
 use Rattle.prv_sym.specs.declared.evaluations.Walk.{Walk}
-use Rattle.prv_sym.specs.declared.nodes.Slot.{Slot}
+use Rattle.prv_sym.specs.declared.symbol_nodes.Slot.{Slot}
 use Rattle.prv_sym.specs.Calls.{AreSlots, AllStand, terms_of}
 use Rattle.prv_sym.specs.Named.{named}
 use Rattle.prv_sym.specs.Symbols.{Symbol, symbol}

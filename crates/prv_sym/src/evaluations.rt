@@ -1,3 +1,4 @@
+//! The symbolic walk along a run: each evaluation becomes the nodes of its value and of its safety.
 ghost use Rattle.std.specs.Prelude.{◌≡◌, ℕ, ℤ, List, IfOk, OnOk, map, slice_set};
 ghost use Rattle.prv_pool.specs.Tables.{Table};
 ghost use Rattle.prv_run.specs.Runs.{run_of, events as events_of};
@@ -8,8 +9,8 @@ ghost use Rattle.prv_sym.specs.Walks.{Walked, Reached, seen, row_of, slots_by, w
 ghost use Rattle.prv_model.specs.declared.term.Term.{Term};
 
 use crate::expressions::symbol;
-use crate::nodes::Slot;
 use crate::statements::{Evaluation, evaluations, row};
+use crate::symbol_nodes::Slot;
 use prv_model::Program;
 use prv_pool::{Pool, PoolError};
 use prv_run::{Event, Traced};

@@ -1,17 +1,18 @@
+//! Expressions as nodes over what the variables have.
 ghost use Rattle.std.specs.Prelude.{◌≡◌, [], ◌∷◌, pos, IfOk, slice_get, unwrap_or};
 ghost use Rattle.prv_model.specs.declared.term.Term.TheVariants.{Num};
 ghost use Rattle.prv_sym.specs.Calls.{Names, StandsFor, AreSlots, terms_of, variable_term};
 ghost use Rattle.prv_sym.specs.Named.{named};
 ghost use Rattle.prv_sym.specs.Symbols.{symbol as symbol_of};
 
-use crate::nodes::{Nodes, Slot};
 use crate::operators::{binary, pick, unary};
+use crate::symbol_nodes::{Slot, SymbolNodes};
 use prv_model::Expr;
 use prv_pool::{Pool, PoolError};
 use sqlite_items::at;
 
 /// The nodes of an expression, where each variable has what its slot says.
-pub fn symbol(expr: &Expr, slots: &[Slot], pool: &mut Pool) -> Result<Nodes, PoolError>
+pub fn symbol(expr: &Expr, slots: &[Slot], pool: &mut Pool) -> Result<SymbolNodes, PoolError>
     requires { AreSlots pool.old.terms slots.now }
     ensures value { IfOk result (λ n. StandsFor pool.new.terms n.value (symbol_of expr.now (terms_of pool.old.terms slots.now)).term) }
     ensures safe { IfOk result (λ n. StandsFor pool.new.terms n.safe (symbol_of expr.now (terms_of pool.old.terms slots.now)).safe) }
@@ -39,18 +40,18 @@ pub fn symbol(expr: &Expr, slots: &[Slot], pool: &mut Pool) -> Result<Nodes, Poo
 }
 
 /// The nodes of a number.
-fn number(n: i32, pool: &mut Pool) -> Result<Nodes, PoolError>
+fn number(n: i32, pool: &mut Pool) -> Result<SymbolNodes, PoolError>
     ensures value { IfOk result (λ nodes. StandsFor pool.new.terms nodes.value (Num n)) }
     ensures safe { IfOk result (λ nodes. StandsFor pool.new.terms nodes.safe (Num (pos 1))) }
     ensures names { Names (Num n ∷ Num (pos 1) ∷ []) pool.old pool.new result }
 {
     let value = pool.num(n)?;
     let safe = pool.num(1)?;
-    Ok(Nodes { value, safe })
+    Ok(SymbolNodes { value, safe })
 }
 
 /// The nodes of a variable.
-fn read(slots: &[Slot], var: u8, pool: &mut Pool) -> Result<Nodes, PoolError>
+fn read(slots: &[Slot], var: u8, pool: &mut Pool) -> Result<SymbolNodes, PoolError>
     requires { AreSlots pool.old.terms slots.now }
     ensures value { IfOk result (λ n. StandsFor pool.new.terms n.value (variable_term (terms_of pool.old.terms slots.now) var)) }
     ensures safe { IfOk result (λ n. StandsFor pool.new.terms n.safe (Num (pos 1))) }
@@ -58,7 +59,7 @@ fn read(slots: &[Slot], var: u8, pool: &mut Pool) -> Result<Nodes, PoolError>
 {
     let value = variable(slots, var, pool)?;
     let safe = pool.num(1)?;
-    Ok(Nodes { value, safe })
+    Ok(SymbolNodes { value, safe })
 }
 
 /// The node of a variable's term.

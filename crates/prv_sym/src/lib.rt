@@ -7,13 +7,13 @@
 mod evaluations;
 mod expressions;
 mod laws;
-mod nodes;
 mod operators;
 mod statements;
+mod symbol_nodes;
 #[cfg(test)]
 mod tests;
 
 pub use evaluations::{Symbols, terms};
 pub use expressions::symbol;
 pub use laws::symbols_say_what_is_evaluated;
-pub use nodes::{Nodes, Slot};
+pub use symbol_nodes::{Slot, SymbolNodes};

@@ -1,3 +1,4 @@
+//! Operators of the language as operators of terms, each with where it is safe: divisors and shifts that fault.
 ghost use Rattle.std.specs.Prelude.{◌≡◌, ◌<◌, ◌++◌, length, IfOk};
 ghost use Rattle.prv_pool.specs.Folding.{folded, folded_pick, truth as truth_of};
 ghost use Rattle.prv_pool.specs.Tables.{term_at};
@@ -5,7 +6,7 @@ ghost use Rattle.prv_sym.specs.Calls.{Names, StandsFor, AreIn, symbol_at};
 ghost use Rattle.prv_sym.specs.Named.{unary_named, join_named, class_named, safe_where_true, safe_where_false, true_named, false_named, chosen_safe, chosen_named, division_named, safety_named, pick_named};
 ghost use Rattle.prv_sym.specs.Symbols.{class_of, unary_term, class_term, class_safe, pick_safe};
 
-use crate::nodes::Nodes;
+use crate::symbol_nodes::SymbolNodes;
 use prv_model::{BinOp, TermOp, UnOp};
 use prv_pool::{Pool, PoolError};
 
@@ -51,14 +52,14 @@ fn classify(op: BinOp) -> Class
 }
 
 /// The nodes of an operator on one operand.
-pub fn unary(op: UnOp, x: Nodes, pool: &mut Pool) -> Result<Nodes, PoolError>
+pub fn unary(op: UnOp, x: SymbolNodes, pool: &mut Pool) -> Result<SymbolNodes, PoolError>
     requires { AreIn pool.old.terms x }
     ensures value { IfOk result (λ n. StandsFor pool.new.terms n.value (unary_term op (term_at pool.old.terms x.value))) }
     ensures safe { IfOk result (λ n. StandsFor pool.new.terms n.safe (term_at pool.old.terms x.safe)) }
     ensures names { Names (unary_named op (term_at pool.old.terms x.value)) pool.old pool.new result }
 {
     let value = unary_value(op, x.value, pool)?;
-    Ok(Nodes {
+    Ok(SymbolNodes {
         value,
         safe: x.safe,
     })
@@ -108,7 +109,12 @@ fn flip(a: u32, pool: &mut Pool) -> Result<u32, PoolError>
 }
 
 /// The nodes of an operator on two operands.
-pub fn binary(op: BinOp, x: Nodes, y: Nodes, pool: &mut Pool) -> Result<Nodes, PoolError>
+pub fn binary(
+    op: BinOp,
+    x: SymbolNodes,
+    y: SymbolNodes,
+    pool: &mut Pool,
+) -> Result<SymbolNodes, PoolError>
     requires first { AreIn pool.old.terms x }
     requires second { AreIn pool.old.terms y }
     ensures value { IfOk result (λ n. StandsFor pool.new.terms n.value (class_term (class_of op) (term_at pool.old.terms x.value) (term_at pool.old.terms y.value))) }
@@ -118,7 +124,7 @@ pub fn binary(op: BinOp, x: Nodes, y: Nodes, pool: &mut Pool) -> Result<Nodes, P
     let class = classify(op);
     let value = binary_value(class, x.value, y.value, pool)?;
     let safe = binary_safe(class, x, y, pool)?;
-    Ok(Nodes { value, safe })
+    Ok(SymbolNodes { value, safe })
 }
 
 /// The node of an operator on two nodes.
@@ -150,7 +156,12 @@ fn join(op: TermOp, a: u32, b: u32, pool: &mut Pool) -> Result<u32, PoolError>
 }
 
 /// The node of the safety of an operator on two operands.
-fn binary_safe(class: Class, x: Nodes, y: Nodes, pool: &mut Pool) -> Result<u32, PoolError>
+fn binary_safe(
+    class: Class,
+    x: SymbolNodes,
+    y: SymbolNodes,
+    pool: &mut Pool,
+) -> Result<u32, PoolError>
     requires first { AreIn pool.old.terms x }
     requires second { AreIn pool.old.terms y }
     ensures stands { IfOk result (λ n. StandsFor pool.new.terms n (class_safe class (symbol_at pool.old.terms x) (symbol_at pool.old.terms y))) }
@@ -166,7 +177,7 @@ fn binary_safe(class: Class, x: Nodes, y: Nodes, pool: &mut Pool) -> Result<u32,
 }
 
 /// The node of the safety of a division.
-fn division_safe(x: Nodes, y: Nodes, pool: &mut Pool) -> Result<u32, PoolError>
+fn division_safe(x: SymbolNodes, y: SymbolNodes, pool: &mut Pool) -> Result<u32, PoolError>
     requires first { AreIn pool.old.terms x }
     requires second { AreIn pool.old.terms y }
     ensures stands { (op : TermOp) → IfOk result (λ n. StandsFor pool.new.terms n (class_safe (Class.Divides op) (symbol_at pool.old.terms x) (symbol_at pool.old.terms y))) }
@@ -179,7 +190,7 @@ fn division_safe(x: Nodes, y: Nodes, pool: &mut Pool) -> Result<u32, PoolError>
 }
 
 /// The node of the safety of an operator whose second operand is evaluated where the first one holds.
-fn also_safe(x: Nodes, y: Nodes, pool: &mut Pool) -> Result<u32, PoolError>
+fn also_safe(x: SymbolNodes, y: SymbolNodes, pool: &mut Pool) -> Result<u32, PoolError>
     requires first { AreIn pool.old.terms x }
     requires second { AreIn pool.old.terms y }
     ensures stands { IfOk result (λ n. StandsFor pool.new.terms n (class_safe Class.WhereTrue (symbol_at pool.old.terms x) (symbol_at pool.old.terms y))) }
@@ -190,7 +201,7 @@ fn also_safe(x: Nodes, y: Nodes, pool: &mut Pool) -> Result<u32, PoolError>
 }
 
 /// The node of the safety of an operator whose second operand is evaluated where the first one fails.
-fn else_safe(x: Nodes, y: Nodes, pool: &mut Pool) -> Result<u32, PoolError>
+fn else_safe(x: SymbolNodes, y: SymbolNodes, pool: &mut Pool) -> Result<u32, PoolError>
     requires first { AreIn pool.old.terms x }
     requires second { AreIn pool.old.terms y }
     ensures stands { IfOk result (λ n. StandsFor pool.new.terms n (class_safe Class.WhereFalse (symbol_at pool.old.terms x) (symbol_at pool.old.terms y))) }
@@ -226,7 +237,12 @@ fn where_false(truth: u32, safe: u32, inner: u32, pool: &mut Pool) -> Result<u32
 }
 
 /// The nodes of a choice.
-pub fn pick(c: Nodes, x: Nodes, y: Nodes, pool: &mut Pool) -> Result<Nodes, PoolError>
+pub fn pick(
+    c: SymbolNodes,
+    x: SymbolNodes,
+    y: SymbolNodes,
+    pool: &mut Pool,
+) -> Result<SymbolNodes, PoolError>
     requires test { AreIn pool.old.terms c }
     requires chosen { AreIn pool.old.terms x }
     requires other { AreIn pool.old.terms y }
@@ -237,7 +253,7 @@ pub fn pick(c: Nodes, x: Nodes, y: Nodes, pool: &mut Pool) -> Result<Nodes, Pool
     let truth = pool.truth(c.value)?;
     let value = pool.pick(truth, x.value, y.value)?;
     let safe = choice_safe(truth, c.safe, x.safe, y.safe, pool)?;
-    Ok(Nodes { value, safe })
+    Ok(SymbolNodes { value, safe })
 }
 
 /// The node that `safe` is 1 and, where `truth` holds, `chosen`, and where it fails, `other`.

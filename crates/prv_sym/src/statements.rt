@@ -1,3 +1,4 @@
+//! What each statement of a program evaluates itself, by the number of the statement.
 ghost use Rattle.std.specs.Prelude.{◌≡◌, ◌++◌, map, IfOk, OnOk};
 ghost use Rattle.prv_model.specs.Numbers.{inside, statements, statements_all};
 ghost use Rattle.prv_sym.specs.Walks.{own as own_of, row_of, row_at};

@@ -1,3 +1,4 @@
+//! The nodes of one run, counted by hand.
 use crate::terms;
 use prv_model::{BinOp, Expr, Input, Name, Program, Stmt, TermOp};
 use prv_pool::{Node, Pool, PoolError};

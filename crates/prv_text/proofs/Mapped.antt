@@ -1,5 +1,5 @@
 -- The texts of terms by their numbers.
-use Rattle.std.proofs.Common.{◌≡◌, ◌==◌, if◌then◌else◌, ℕ, zero, suc, ◌-◌, List, [], ◌∷◌, ◌++◌, length, take, map, flat_map, All, Option, Some, None, refl, ap, ◌∙◌, codes}
+use Rattle.std.proofs.Common.{◌≡◌, ℕ, zero, suc, ◌-◌, List, [], ◌∷◌, ◌++◌, length, take, map, flat_map, All, Option, Some, None, refl, ap, ◌∙◌, codes}
 use Rattle.std.specs.Prelude.{slice_get, unwrap_or}
 use Rattle.std.specs.Option.{option_map}
 use Rattle.std.specs.List.{AllByRecursion}
@@ -9,8 +9,7 @@ use Rattle.std.proofs.lemmas.Option.{slice_get-map}
 use Rattle.std.proofs.lemmas.List.Elements.{All-from_recursion, recursion_from_All}
 use Rattle.prv_model.specs.declared.outcome.Ending.{Ending}
 use Rattle.prv_model.specs.declared.outcome.Ending.TheVariants.{Returned, Fault, Assert, Long}
-use Rattle.prv_text.specs.Lines.{line, listed}
-use Rattle.prv_text.specs.Entries.{more_text, joined}
+use Rattle.prv_text.specs.Lines.{line}
 use Rattle.prv_text.specs.Outcomes.{put_before, last_text, ending_text, end_lines}
 
 put_before-mapped : {A B : Type 0} (f : A → B) (how : Ending) (xs : List A) → put_before how (map f xs) ≡ map f (put_before how xs)
@@ -47,15 +46,3 @@ all-put_before P Returned xs h = All-from_recursion P (take (length xs - 1) xs) 
 all-put_before P Fault xs h = h
 all-put_before P Assert xs h = h
 all-put_before P Long xs h = h
-
-listed-mapped : {A B : Type 0} (text : B → List ℕ) (sep : List ℕ) (f : A → B) (xs : List A) → listed text sep (map f xs) ≡ listed (λ x. text (f x)) sep xs
-listed-mapped text sep f [] = refl
-listed-mapped text sep f (x ∷ xs) = ap (λ (ls : List ℕ). text (f x) ++ ls) (flat_map-map (λ next. sep ++ text next) f xs)
-
-pub joined-mapped : {A B : Type 0} (text : B → List ℕ) (f : A → B) (xs : List A) → joined text (map f xs) ≡ joined (λ x. text (f x)) xs
-joined-mapped {A} {B} text f xs =
-    ap (λ (n : ℕ). if n == 0 then codes "true" else listed text (codes " ; ") (take 32 (map f xs)) ++ more_text n) (length-map xs f)
-    ∙ ap (λ (ls : List ℕ). if length xs == 0 then codes "true" else ls ++ more_text (length xs)) (ap (λ (ys : List B). listed text (codes " ; ") ys) (take-map f 32 xs) ∙ listed-mapped text (codes " ; ") f (take 32 xs))
-
-pub all-first : {A : Type 0} (P : A → Type 0) (n : ℕ) (xs : List A) → All P xs → All P (take n xs)
-all-first P n xs h = All-from_recursion P (take n xs) (all-take P n xs (recursion_from_All P xs h))

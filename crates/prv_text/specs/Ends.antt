@@ -1,14 +1,19 @@
 -- What the last line of a report says.
 use Rattle.std.specs.Prelude.{ℕ, List, ◌++◌, codes, decimal}
-use Rattle.prv_text.specs.declared.last.Ended.{Ended}
-use Rattle.prv_text.specs.declared.last.Ended.TheVariants.{Done, Full, Stop, Settlements}
+use Rattle.prv_board.specs.declared.ended.Ended.{Ended}
+use Rattle.prv_board.specs.declared.ended.Ended.TheVariants.{Done, Full, Stop, Settlements}
+use Rattle.prv_board.specs.declared.totals.Totals.{Totals}
 use Rattle.prv_text.specs.declared.last.Last.{Last}
 use Rattle.prv_text.specs.declared.last.Last.TheVariants as last
 
--- why an exploration ended; a full board with the totals that it would have reached
+-- a full board, with the totals that it would have reached
+abbrev pub totals_text : Totals → List ℕ
+totals_text t = codes "full " ++ decimal t.entries ++ codes " " ++ decimal t.numbers ++ codes " " ++ decimal t.literals
+
+-- why an exploration ended
 abbrev pub ended_text : Ended → List ℕ
 ended_text Done = codes "done"
-ended_text (Full entries numbers literals) = codes "full " ++ decimal entries ++ codes " " ++ decimal numbers ++ codes " " ++ decimal literals
+ended_text (Full reached) = totals_text reached
 ended_text Stop = codes "stop"
 ended_text (Settlements limit) = codes "settlements " ++ decimal limit
 

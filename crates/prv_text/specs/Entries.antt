@@ -14,13 +14,9 @@ use Rattle.prv_text.specs.Terms.{literal_text}
 abbrev pub more_text : ℕ → List ℕ
 more_text count = if nat_le count 32 then [] else codes " ; .."
 
--- the first 32 of some literals, by the text of each
-abbrev pub joined : {A : Type 0} → (A → List ℕ) → List A → List ℕ
-joined text literals = if length literals == 0 then codes "true" else listed text (codes " ; ") (take 32 literals) ++ more_text (length literals)
-
--- the condition of a region
+-- the condition of a region: the first 32 of its literals
 abbrev pub condition : List (List ℕ) → List Term → List ℕ
-condition names terms = joined (literal_text names) terms
+condition names terms = if length terms == 0 then codes "true" else listed (literal_text names) (codes " ; ") (take 32 terms) ++ more_text (length terms)
 
 -- marks, or the word for no marks
 abbrev pub marks_text : List ℕ → List ℕ

@@ -7,9 +7,9 @@ ghost use Rattle.prv_text.specs.Entries.{entry_line};
 ghost use Rattle.prv_text.specs.Boards.{numbered, live_entries, names_of, board_regions, board_counts, board_report, generated_report as generated_of};
 
 use crate::counts::push_counts;
+use crate::entry::push_line;
 use crate::last::{Last, push_last};
 use crate::number::push_number;
-use crate::part::push_part;
 use prv_board::Board;
 use std::alloc::{AllocError, Global};
 
@@ -21,7 +21,7 @@ pub fn report(alloc: Global, board: &Board, last: &Last) -> Result<Vec<u8>, Allo
     ensures { IfOk result (λ text. text.items ≡ board_report board.now.replay last.now) }
 {
     let mut out = Vec::new(alloc);
-    push_regions(alloc, &mut out, board)?;
+    push_regions(&mut out, board)?;
     push_board_counts(&mut out, board)?;
     push_last(&mut out, last)?;
     Ok(out)
@@ -46,22 +46,18 @@ pub fn report_generated(
 }
 
 /// Writes the count of a board's live entries, and a line for each.
-pub(crate) fn push_regions(
-    alloc: Global,
-    out: &mut Vec<u8>,
-    board: &Board,
-) -> Result<(), AllocError>
+fn push_regions(out: &mut Vec<u8>, board: &Board) -> Result<(), AllocError>
     ensures { OnOk result (out.new.items ≡ out.old.items ++ board_regions board.now.replay) }
 {
     out.extend_from_slice(b"regions ")?;
     push_number(out, board.totals().entries)?;
     out.push(b'\n')?;
-    push_live(alloc, out, board)?;
+    push_live(out, board)?;
     Ok(())
 }
 
 /// Writes how many live entries a board has of each kind.
-pub(crate) fn push_board_counts(out: &mut Vec<u8>, board: &Board) -> Result<(), AllocError>
+fn push_board_counts(out: &mut Vec<u8>, board: &Board) -> Result<(), AllocError>
     ensures { OnOk result (out.new.items ≡ out.old.items ++ board_counts board.now.replay) }
 {
     push_counts(out, &board.counts())
@@ -87,31 +83,27 @@ fn push_generated(
 }
 
 /// Writes a line for each live entry, in the order of their numbers.
-fn push_live(alloc: Global, out: &mut Vec<u8>, board: &Board) -> Result<(), AllocError>
+fn push_live(out: &mut Vec<u8>, board: &Board) -> Result<(), AllocError>
     ensures { OnOk result (out.new.items ≡ out.old.items ++ flat_map (entry_line (names_of board.now.replay)) (live_entries board.now.replay)) }
 {
     for number in 0..board.next_number() {
-        push_live_entry(alloc, out, board, number)?;
+        push_live_entry(out, board, number)?;
     }
     Ok(())
 }
 
 /// Writes the line of the entry of a number, if it is live.
-fn push_live_entry(
-    alloc: Global,
-    out: &mut Vec<u8>,
-    board: &Board,
-    number: u32,
-) -> Result<(), AllocError>
+fn push_live_entry(out: &mut Vec<u8>, board: &Board, number: u32) -> Result<(), AllocError>
     ensures { OnOk result (out.new.items ≡ out.old.items ++ flat_map (entry_line (names_of board.now.replay)) (option_to_list (option_map (numbered number) (part_at (slots board.now.replay) number)))) }
 {
     match board.entry(number) {
-        Some(part) => push_part(
-            alloc,
+        Some(part) => push_line(
             out,
             board.pair().before.names.as_slice(),
             number,
-            part,
+            &part.kind,
+            part.marks.as_slice(),
+            &part.region,
         ),
         None => Ok(()),
     }

@@ -1,33 +1,53 @@
-//! The line of an entry.
-ghost use Rattle.std.specs.Prelude.{◌≡◌, ◌++◌, take, OnOk, codes, decimal, flat_map};
+//! The line of an entry: its number, what is claimed, and of which inputs.
+ghost use Rattle.std.specs.Prelude.{◌≡◌, ◌++◌, OnOk, codes, decimal, flat_map};
 ghost use Rattle.std.specs.Fmt.{signed_decimal};
-ghost use Rattle.prv_text.specs.Lines.{listed};
-ghost use Rattle.prv_text.specs.Terms.{literal_text};
-ghost use Rattle.prv_text.specs.Entries.{more_text, joined, condition, marks_text, words_text, reason_text, kind_text, entry_line};
+ghost use Rattle.prv_text.specs.Entries.{marks_text, words_text, reason_text, kind_text, entry_line};
 
+use crate::literals::{Literals, push_condition};
 use crate::number::push_number;
-use crate::term::push_literal;
-use prv_model::{Entry, Kind, Name, Reason, Term};
+use prv_model::{Entry, Kind, Name, Reason};
 use std::alloc::AllocError;
 
-/// How many literals of a condition are shown.
-const SHOWN_LITERALS: usize = 32;
-
 /// Writes the line of an entry.
+///
+/// `names` are the names of the parameters.
 pub fn push_entry(out: &mut Vec<u8>, names: &[Name], entry: &Entry) -> Result<(), AllocError>
     ensures { OnOk result (out.new.items ≡ out.old.items ++ entry_line names.now entry.now) }
 {
-    push_number(out, entry.number)?;
+    push_line(
+        out,
+        names,
+        entry.number,
+        &entry.kind,
+        entry.marks.as_slice(),
+        &entry.terms,
+    )
+}
+
+/// Writes the line of the entry with this number, this claim and these marks, whose literals these are.
+///
+/// `names` are the names of the parameters. Time and memory are in proportion to the bytes that are written.
+pub(crate) fn push_line<L: Literals>(
+    out: &mut Vec<u8>,
+    names: &[Name],
+    number: u32,
+    kind: &Kind,
+    marks: &[u8],
+    literals: &L,
+) -> Result<(), AllocError>
+    ensures { OnOk result (out.new.items ≡ out.old.items ++ entry_line names.now (record { number = number; terms = L.terms literals.now; kind = kind.now; marks = marks.now })) }
+{
+    push_number(out, number)?;
     out.push(b' ')?;
-    push_kind(out, &entry.kind, entry.marks.as_slice())?;
+    push_kind(out, kind, marks)?;
     out.extend_from_slice(b": ")?;
-    push_condition(out, names, entry.terms.as_slice())?;
+    push_condition(out, names, literals)?;
     out.push(b'\n')?;
     Ok(())
 }
 
 /// Writes a claim, with the marks of its entry.
-pub(crate) fn push_kind(out: &mut Vec<u8>, kind: &Kind, marks: &[u8]) -> Result<(), AllocError>
+fn push_kind(out: &mut Vec<u8>, kind: &Kind, marks: &[u8]) -> Result<(), AllocError>
     ensures { OnOk result (out.new.items ≡ out.old.items ++ kind_text kind.now marks.now) }
 {
     match kind {
@@ -76,54 +96,6 @@ fn push_reason(out: &mut Vec<u8>, reason: Reason) -> Result<(), AllocError>
         Reason::Wide => out.extend_from_slice(b"nodes"),
         Reason::Literals => out.extend_from_slice(b"literals"),
     }
-}
-
-/// Writes the first literals of a condition.
-fn push_condition(out: &mut Vec<u8>, names: &[Name], terms: &[Term]) -> Result<(), AllocError>
-    ensures { OnOk result (out.new.items ≡ out.old.items ++ condition names.now terms.now) }
-{
-    if terms.is_empty() {
-        out.extend_from_slice(b"true")?;
-        return Ok(());
-    }
-    push_literals(out, names, first_shown(terms))?;
-    push_more(out, terms.len())?;
-    Ok(())
-}
-
-/// The literals of a condition that are shown.
-pub(crate) fn first_shown<T>(literals: &[T]) -> &[T]
-    ensures { result.now ≡ take 32 literals.now }
-{
-    if literals.len() <= SHOWN_LITERALS {
-        literals
-    } else {
-        literals.split_at(SHOWN_LITERALS).0
-    }
-}
-
-/// Writes what stands behind the first of so many literals, where there are more.
-pub(crate) fn push_more(out: &mut Vec<u8>, count: usize) -> Result<(), AllocError>
-    ensures { OnOk result (out.new.items ≡ out.old.items ++ more_text count) }
-{
-    if count > SHOWN_LITERALS {
-        out.extend_from_slice(b" ; ..")?;
-    }
-    Ok(())
-}
-
-fn push_literals(out: &mut Vec<u8>, names: &[Name], terms: &[Term]) -> Result<(), AllocError>
-    ensures { OnOk result (out.new.items ≡ out.old.items ++ listed (literal_text names.now) (codes " ; ") terms.now) }
-{
-    let Some((first, rest)) = terms.split_first() else {
-        return Ok(());
-    };
-    push_literal(out, names, first)?;
-    for term in rest {
-        out.extend_from_slice(b" ; ")?;
-        push_literal(out, names, term)?;
-    }
-    Ok(())
 }
 
 /// Writes marks, or the word for none.

@@ -1,31 +1,11 @@
-//! The last line of a report.
+//! The last line of a report: why no more was done.
 ghost use Rattle.std.specs.Prelude.{◌≡◌, ◌++◌, OnOk, codes, decimal};
 ghost use Rattle.prv_text.specs.Lines.{line};
-ghost use Rattle.prv_text.specs.Ends.{ended_text, end_text};
+ghost use Rattle.prv_text.specs.Ends.{totals_text, ended_text, end_text};
 
 use crate::number::push_number;
+use prv_board::{Ended, Totals};
 use std::alloc::AllocError;
-
-/// Why an exploration ended.
-#[derive(Clone, Copy, Debug, PartialEq, Eq)]
-pub enum Ended {
-    /// No entry is left that can be worked on with the budget.
-    Done,
-    /// A settlement would have passed a cap of the board. These are the totals that it would have reached: of
-    /// the live entries, of the numbers of all settlements with the count of their parts, and of the literals
-    /// of the live entries.
-    Full {
-        entries: u32,
-        numbers: u64,
-        literals: u64,
-    },
-    /// A stop was asked for.
-    Stop,
-    /// As many settlements were made as were allowed.
-    Settlements {
-        limit: u32,
-    },
-}
 
 /// What the last line of a report says.
 #[derive(Clone, Copy, Debug, PartialEq, Eq)]
@@ -65,11 +45,7 @@ fn push_ended(out: &mut Vec<u8>, why: &Ended) -> Result<(), AllocError>
 {
     match why {
         Ended::Done => out.extend_from_slice(b"done"),
-        Ended::Full {
-            entries,
-            numbers,
-            literals,
-        } => push_totals(out, *entries, *numbers, *literals),
+        Ended::Full(reached) => push_totals(out, reached),
         Ended::Stop => out.extend_from_slice(b"stop"),
         Ended::Settlements { limit } => {
             out.extend_from_slice(b"settlements ")?;
@@ -79,18 +55,13 @@ fn push_ended(out: &mut Vec<u8>, why: &Ended) -> Result<(), AllocError>
 }
 
 /// Writes the totals that a board would have reached.
-fn push_totals(
-    out: &mut Vec<u8>,
-    entries: u32,
-    numbers: u64,
-    literals: u64,
-) -> Result<(), AllocError>
-    ensures { OnOk result (out.new.items ≡ out.old.items ++ (codes "full " ++ decimal entries ++ codes " " ++ decimal numbers ++ codes " " ++ decimal literals)) }
+fn push_totals(out: &mut Vec<u8>, totals: &Totals) -> Result<(), AllocError>
+    ensures { OnOk result (out.new.items ≡ out.old.items ++ totals_text totals.now) }
 {
     out.extend_from_slice(b"full ")?;
-    push_number(out, entries)?;
+    push_number(out, totals.entries)?;
     out.push(b' ')?;
-    push_number(out, numbers)?;
+    push_number(out, totals.numbers)?;
     out.push(b' ')?;
-    push_number(out, literals)
+    push_number(out, totals.literals)
 }

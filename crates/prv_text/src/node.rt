@@ -9,7 +9,7 @@ ghost use Rattle.prv_text.specs.Waiting.{IsWithin, piece_text, pieces_of, Goes, 
 use crate::pieces::{cut_behind, push_between, push_capped, push_decimal, push_name};
 use prv_model::{Name, TermOp};
 use prv_pool::{Node, Pool};
-use std::alloc::{AllocError, Global};
+use std::alloc::AllocError;
 
 /// A piece of a text that is still to be written.
 #[derive(Clone, Copy, Debug)]
@@ -31,7 +31,6 @@ pub(crate) enum Piece {
 /// `names` are the names of the parameters. A parameter past them has no text. Time and memory are in proportion
 /// to the bytes that are written.
 pub fn push_node(
-    alloc: Global,
     out: &mut Vec<u8>,
     names: &[Name],
     pool: &Pool,
@@ -42,13 +41,12 @@ pub fn push_node(
     ensures { OnOk result (out.new.items ≡ out.old.items ++ term_text limit names.now (term_at pool.now.terms node)) }
 {
     let end = out.len() + limit as usize;
-    push_pieces(alloc, out, names, pool, node, end + 1)?;
+    push_pieces(out, names, pool, node, end + 1)?;
     cut_behind(out, end)
 }
 
 /// Writes the text of a node's term, but no bytes past `end`.
 fn push_pieces(
-    alloc: Global,
     out: &mut Vec<u8>,
     names: &[Name],
     pool: &Pool,
@@ -59,7 +57,7 @@ fn push_pieces(
     requires room { vec_len out.old ≤ end }
     ensures { OnOk result (out.new.items ≡ take end (out.old.items ++ (spelled names.now (term_at pool.now.terms node)).text)) }
 {
-    let mut waiting = Vec::new(alloc);
+    let mut waiting = Vec::new(*out.allocator());
     open(out, &mut waiting, names, pool, node, end)?;
     while out.len() < end {
         let Some(piece) = waiting.pop() else {

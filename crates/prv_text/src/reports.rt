@@ -1,15 +1,16 @@
 //! The report of a list of entries.
-ghost use Rattle.std.specs.Prelude.{◌≡◌, ◌++◌, length, IfOk, OnOk, codes, decimal, flat_map};
+ghost use Rattle.std.specs.Prelude.{◌≡◌, ◌<◌, ◌^◌, ◌++◌, length, IfOk, OnOk, codes, decimal, flat_map};
 ghost use Rattle.prv_text.specs.Entries.{entry_line};
 ghost use Rattle.prv_text.specs.Reports.{point_report, regions_text};
 
-use crate::counts::push_entry_counts;
+use crate::counts::{count_entries, push_counts};
 use crate::entry::push_entry;
 use crate::number::push_number;
 use prv_model::{Entry, Name};
 use std::alloc::{AllocError, Global};
 
-/// The report of the entries of a point: their count, a line for each, the counts by kind, and a last line.
+/// The report of the entries of a point, which are fewer than 2^32: their count, a line for each, the counts by kind,
+/// and a last line.
 ///
 /// `names` are the names of the parameters.
 pub fn report_entries(
@@ -17,11 +18,12 @@ pub fn report_entries(
     names: &[Name],
     entries: &[Entry],
 ) -> Result<Vec<u8>, AllocError>
+    requires { length entries.now < 2 ^ 32 }
     ensures { IfOk result (λ text. text.items ≡ point_report names.now entries.now) }
 {
     let mut out = Vec::new(alloc);
     push_numbered(&mut out, names, entries)?;
-    push_entry_counts(&mut out, entries)?;
+    push_counts(&mut out, &count_entries(entries))?;
     out.extend_from_slice(b"end point\n")?;
     Ok(out)
 }

@@ -38,8 +38,8 @@ pub fn slice_text(
 {
     let mut out = Vec::new(alloc);
     push_count(&mut out, literals.len())?;
-    push_literals(alloc, &mut out, names, pool, literals)?;
-    push_end(alloc, &mut out, names, pool, how, outs)?;
+    push_literals(&mut out, names, pool, literals)?;
+    push_end(&mut out, names, pool, how, outs)?;
     push_marks_line(&mut out, marks)?;
     Ok(out)
 }
@@ -66,7 +66,6 @@ fn push_marks_line(out: &mut Vec<u8>, marks: &[u8]) -> Result<(), AllocError>
 
 /// Writes a line for each term that is put out, and one for the end.
 fn push_end(
-    alloc: Global,
     out: &mut Vec<u8>,
     names: &[Name],
     pool: &Pool,
@@ -76,15 +75,14 @@ fn push_end(
     requires { All (λ n. n < length pool.now.terms) outs.now }
     ensures { OnOk result (out.new.items ≡ out.old.items ++ end_lines (λ n. out_text names.now (term_at pool.now.terms n)) how outs.now) }
 {
-    push_outs(alloc, out, names, pool, put_before(how, outs))?;
-    push_ending(alloc, out, names, pool, how, outs)?;
+    push_outs(out, names, pool, put_before(how, outs))?;
+    push_ending(out, names, pool, how, outs)?;
     out.push(b'\n')?;
     Ok(())
 }
 
 /// Writes a line for each literal.
 fn push_literals(
-    alloc: Global,
     out: &mut Vec<u8>,
     names: &[Name],
     pool: &Pool,
@@ -94,31 +92,24 @@ fn push_literals(
     ensures { OnOk result (out.new.items ≡ out.old.items ++ flat_map (λ n. line (literal_text names.now (term_at pool.now.terms n))) literals.now) }
 {
     for literal in literals {
-        push_line(alloc, out, names, pool, b"", *literal, LITERAL_BYTES)?;
+        push_line(out, names, pool, b"", *literal, LITERAL_BYTES)?;
     }
     Ok(())
 }
 
 /// Writes a line for each term that is put out.
-fn push_outs(
-    alloc: Global,
-    out: &mut Vec<u8>,
-    names: &[Name],
-    pool: &Pool,
-    outs: &[u32],
-) -> Result<(), AllocError>
+fn push_outs(out: &mut Vec<u8>, names: &[Name], pool: &Pool, outs: &[u32]) -> Result<(), AllocError>
     requires { All (λ n. n < length pool.now.terms) outs.now }
     ensures { OnOk result (out.new.items ≡ out.old.items ++ flat_map (λ n. line (codes "out " ++ out_text names.now (term_at pool.now.terms n))) outs.now) }
 {
     for node in outs {
-        push_line(alloc, out, names, pool, b"out ", *node, OUT_BYTES)?;
+        push_line(out, names, pool, b"out ", *node, OUT_BYTES)?;
     }
     Ok(())
 }
 
 /// Writes the line of a node's term behind a label.
 fn push_line(
-    alloc: Global,
     out: &mut Vec<u8>,
     names: &[Name],
     pool: &Pool,
@@ -130,14 +121,13 @@ fn push_line(
     ensures { OnOk result (out.new.items ≡ out.old.items ++ line (label.now ++ term_text limit names.now (term_at pool.now.terms node))) }
 {
     out.extend_from_slice(label)?;
-    push_node(alloc, out, names, pool, node, limit)?;
+    push_node(out, names, pool, node, limit)?;
     out.push(b'\n')?;
     Ok(())
 }
 
 /// Writes how the program ends, with the term that it returns.
 fn push_ending(
-    alloc: Global,
     out: &mut Vec<u8>,
     names: &[Name],
     pool: &Pool,
@@ -149,24 +139,18 @@ fn push_ending(
 {
     out.extend_from_slice(ending_word(how))?;
     match how {
-        Ending::Returned => push_last(alloc, out, names, pool, outs),
+        Ending::Returned => push_last(out, names, pool, outs),
         _ => Ok(()),
     }
 }
 
 /// Writes the last of some terms that are put out.
-fn push_last(
-    alloc: Global,
-    out: &mut Vec<u8>,
-    names: &[Name],
-    pool: &Pool,
-    outs: &[u32],
-) -> Result<(), AllocError>
+fn push_last(out: &mut Vec<u8>, names: &[Name], pool: &Pool, outs: &[u32]) -> Result<(), AllocError>
     requires { All (λ n. n < length pool.now.terms) outs.now }
     ensures { OnOk result (out.new.items ≡ out.old.items ++ last_text (λ n. out_text names.now (term_at pool.now.terms n)) outs.now) }
 {
     match outs.last() {
         None => Ok(()),
-        Some(node) => push_node(alloc, out, names, pool, *node, OUT_BYTES),
+        Some(node) => push_node(out, names, pool, *node, OUT_BYTES),
     }
 }

@@ -1,10 +1,11 @@
+//! Where operands need parentheses, and where a line is cut.
 ghost use Rattle.std.specs.Prelude.{◌≡◌, [], IfOk, IfSome};
 
 use crate::board::{report, report_generated};
 use crate::entry::push_entry;
-use crate::last::{Ended, Last};
+use crate::last::Last;
 use crate::term::push_literal;
-use prv_board::Board;
+use prv_board::{Board, Ended, Totals};
 use prv_model::{Entry, Expr, Input, Kind, Name, Pair, Program, Reason, Stmt, Term, TermOp};
 use prv_part::Caps;
 use prv_pool::{Cond, Pool, Region};
@@ -240,11 +241,11 @@ fn board(alloc: Global) -> Result<Board, Fail> {
 fn boards(rt: HostRuntime) -> Result<(), Fail> {
     let alloc = rt.alloc();
     let board = board(alloc)?;
-    let full = Last::Ended(Ended::Full {
+    let full = Last::Ended(Ended::Full(Totals {
         entries: 3,
         numbers: 5_000_000_000,
         literals: 0,
-    });
+    }));
     assert_eq!(rt;
         report(alloc, &board, &full)?.as_slice(),
         b"regions 1\n0 open: true\nsame 0 different 0 empty 0 beyond 0 open 1 undecided 0\nend full 3 5000000000 0\n".as_slice()

@@ -4,7 +4,7 @@ use Rattle.std.proofs.Props.{props}
 use Rattle.prv_model.specs.Programs.{IsProgram}
 use Rattle.prv_model.specs.declared.program.Program.{Program}
 use Rattle.prv_model.specs.declared.stmt.Stmt.{Stmt}
-use Rattle.prv_parse.specs.declared.skeleton.Skel.{Skel}
+use Rattle.prv_rule.specs.declared.skeleton.Skel.{Skel}
 use Rattle.prv_parse.specs.declared.tree.Ident.{Ident}
 use Rattle.prv_parse.specs.declared.tree.StmtTree.{StmtTree}
 use Rattle.prv_names.specs.Versions.{variables, numbered, marks_of}

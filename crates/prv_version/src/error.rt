@@ -1,92 +1,69 @@
-use prv_lex::{LexError, LexWhy};
-use prv_names::{NameError, What};
+//! Why a file gives no version of a program: the error of the part that refuses it, as it is.
+use prv_lex::LexError;
+use prv_names::NameError;
 use prv_parse::ParseError;
 use thiserror::Error;
 
-/// Why a file gives no version of a program. A place is a byte offset in the file.
-#[derive(Clone, Copy, Debug, PartialEq, Eq, Error)]
-pub enum FileRefusal {
+/// What keeps a file from giving a version. A place is a byte offset in the file.
+#[derive(Debug, Drop, Error)]
+pub enum VersionError {
     /// The first thing that is no token.
-    #[error("lex {why:?} at {place}")]
-    Lex { place: u32, why: LexWhy },
-    /// The first token at which the text can be no program, or the end of the file.
-    #[error("syntax at {place}")]
-    Syntax { place: u32 },
-    /// The first token past a limit of nesting or of operators.
-    #[error("deep at {place}")]
-    Deep { place: u32 },
-    /// A name of which no declaration has ended before this place.
-    #[error("name unknown at {place}")]
-    Unknown { place: u32 },
-    /// A second declaration of a name.
-    #[error("name twice at {place}")]
-    Twice { place: u32 },
-    /// A name whose block has ended before this place.
-    #[error("name scope at {place}")]
-    NotInScope { place: u32 },
-    /// So many of a kind, where all names are right.
-    #[error("too many {what:?} {count}")]
-    TooMany { what: What, count: u32 },
+    #[error(transparent)]
+    Lex(LexError),
+    /// The first token at which the text can be no program, or that is past a limit.
+    #[error(transparent)]
+    Parse(ParseError),
+    /// The first thing that is wrong with a name, or that there are too many of.
+    #[error(transparent)]
+    Name(NameError),
 }
 
-/// What keeps a file from giving a version.
-#[derive(Clone, Copy, Debug, PartialEq, Eq, Error)]
-pub enum VersionError {
-    #[error("{0}")]
-    Refused(FileRefusal),
-    /// Out of memory.
-    #[error("out of memory")]
-    Memory,
+impl VersionError {
+    ghost use Rattle.std.specs.Prelude.{◌≡◌};
+    ghost use Rattle.prv_version.specs.Versions.{is_memory};
+
+    /// Whether memory ran out, in whichever part; any other error is the file's own.
+    pub fn is_memory(&self) -> bool
+        ensures { result ≡ is_memory self.now }
+    {
+        matches!(
+            self,
+            VersionError::Lex(LexError::Memory)
+                | VersionError::Parse(ParseError::Memory)
+                | VersionError::Name(NameError::Memory)
+        )
+    }
 }
 
 impl From<LexError> for VersionError {
     ghost use Rattle.std.specs.Prelude.{◌≡◌};
-    ghost use Rattle.prv_version.specs.Errors.{of_lexer};
+    ghost use Rattle.prv_version.specs.declared.error.VersionError.TheVariants.{Lex};
 
-    ghost from_gives = { λ error result. result ≡ of_lexer error };
+    ghost from_gives = { λ error result. result ≡ Lex error };
 
     fn from(error: LexError) -> VersionError {
-        match error {
-            LexError::Refused { place, why } => {
-                VersionError::Refused(FileRefusal::Lex { place, why })
-            }
-            LexError::Memory => VersionError::Memory,
-        }
+        VersionError::Lex(error)
     }
 }
 
 impl From<ParseError> for VersionError {
     ghost use Rattle.std.specs.Prelude.{◌≡◌};
-    ghost use Rattle.prv_version.specs.Errors.{of_parser};
+    ghost use Rattle.prv_version.specs.declared.error.VersionError.TheVariants.{Parse};
 
-    ghost from_gives = { λ error result. result ≡ of_parser error };
+    ghost from_gives = { λ error result. result ≡ Parse error };
 
     fn from(error: ParseError) -> VersionError {
-        match error {
-            ParseError::Syntax { place } => VersionError::Refused(FileRefusal::Syntax { place }),
-            ParseError::Deep { place } => VersionError::Refused(FileRefusal::Deep { place }),
-            ParseError::Memory => VersionError::Memory,
-        }
+        VersionError::Parse(error)
     }
 }
 
 impl From<NameError> for VersionError {
     ghost use Rattle.std.specs.Prelude.{◌≡◌};
-    ghost use Rattle.prv_version.specs.Errors.{of_names};
+    ghost use Rattle.prv_version.specs.declared.error.VersionError.TheVariants.{Name};
 
-    ghost from_gives = { λ error result. result ≡ of_names error };
+    ghost from_gives = { λ error result. result ≡ Name error };
 
     fn from(error: NameError) -> VersionError {
-        match error {
-            NameError::Unknown { place } => VersionError::Refused(FileRefusal::Unknown { place }),
-            NameError::Twice { place } => VersionError::Refused(FileRefusal::Twice { place }),
-            NameError::NotInScope { place } => {
-                VersionError::Refused(FileRefusal::NotInScope { place })
-            }
-            NameError::TooMany { what, count } => {
-                VersionError::Refused(FileRefusal::TooMany { what, count })
-            }
-            NameError::Memory => VersionError::Memory,
-        }
+        VersionError::Name(error)
     }
 }

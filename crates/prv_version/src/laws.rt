@@ -3,7 +3,7 @@
 ghost use Rattle.std.specs.Prelude.{◌≡◌, ℕ, List};
 ghost use Rattle.prv_names.specs.declared.version.Version.{Version};
 ghost use Rattle.prv_version.specs.Versions.{GivesVersion, IsFileRefused};
-ghost use Rattle.prv_version.specs.declared.error.FileRefusal.{FileRefusal};
+ghost use Rattle.prv_version.specs.declared.error.VersionError.{VersionError};
 
 /// A file gives one version at most.
 pub fn one_version()
@@ -12,10 +12,10 @@ pub fn one_version()
 
 /// A file that gives a version isn't refused.
 pub fn version_or_refusal()
-    ensures { (file : List ℕ) (version : Version) (why : FileRefusal) → GivesVersion file version → IsFileRefused file why → ⊥ }
+    ensures { (file : List ℕ) (version : Version) (why : VersionError) → GivesVersion file version → IsFileRefused file why → ⊥ }
 {}
 
 /// A file is refused for one reason, at one place.
 pub fn one_reason()
-    ensures { (file : List ℕ) (why how : FileRefusal) → IsFileRefused file why → IsFileRefused file how → why ≡ how }
+    ensures { (file : List ℕ) (why how : VersionError) → IsFileRefused file why → IsFileRefused file how → why ≡ how }
 {}

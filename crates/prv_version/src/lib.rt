@@ -8,6 +8,6 @@ mod error;
 mod laws;
 mod read;
 
-pub use error::{FileRefusal, VersionError};
+pub use error::VersionError;
 pub use laws::{one_reason, one_version, version_or_refusal};
 pub use read::read_version;

@@ -1,3 +1,4 @@
+//! From the bytes of a file to a version of a program.
 ghost use Rattle.std.specs.Prelude.{◌≡◌, MatchResult};
 ghost use Rattle.prv_version.specs.Versions.{GivesVersion, GivesNone};
 
@@ -11,8 +12,8 @@ use std::alloc::Global;
 ///
 /// # Errors
 ///
-/// `Refused` with the first reason why they give none: what is no token comes before what is no program, and
-/// that before what is wrong with a name. `Memory` where memory ran out.
+/// The first reason why they give none: what is no token comes before what is no program, and that before what
+/// is wrong with a name. Or memory ran out, which `is_memory` tells.
 pub fn read_version(alloc: Global, file: &[u8]) -> Result<Version, VersionError>
     ensures { MatchResult result (λ version. GivesVersion file.now version) (λ error. GivesNone file.now error) }
 {

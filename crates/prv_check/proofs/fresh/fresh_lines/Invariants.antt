@@ -10,7 +10,7 @@ invariant-loop-at l =
     ((j : ℕ) → j < l.at → fault_at (fresh_fault l.cnf) l.lines j ≡ None)
     × IsIndex (known l.cnf (take l.at l.lines)) l.index
     × (l.index.occurs ≡ l.fn.index.occurs)
-    × (l.marks.trail ≡ [])
-    × (l.marks.vars ≡ l.fn.marks.vars)
-    × (l.marks.room ≡ l.fn.marks.room)
+    × (l.assignment.trail ≡ [])
+    × (l.assignment.vars ≡ l.fn.assignment.vars)
+    × (l.assignment.room ≡ l.fn.assignment.room)
     × (length l.seen ≡ 2 * l.cnf.vars + 1)

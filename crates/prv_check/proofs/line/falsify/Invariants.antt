@@ -5,7 +5,7 @@ use Rattle.prv_check.proofs.line.falsify.Given as goal
 
 abbrev pub invariant-loop-lit : goal.invariant-loop-lit
 invariant-loop-lit l =
-    (l.marks.trail ≡ map negate (take l.lit-index l.lits))
+    (l.assignment.trail ≡ map negate (take l.lit-index l.lits))
     × (l.once ≡ no_repeat (take l.lit-index l.lits))
-    × (l.marks.vars ≡ l.fn.marks.vars)
-    × (l.marks.room ≡ l.fn.marks.room)
+    × (l.assignment.vars ≡ l.fn.assignment.vars)
+    × (l.assignment.room ≡ l.fn.assignment.room)

@@ -11,7 +11,7 @@ pub returns-then-makes_true : goal.returns-then-makes_true
 returns-then-makes_true c =
     let e = ap (λ (trail : List Lit). list_any (has_literal trail) c.args.lits.now) c.requires.trail ∙ tautology_by_negations c.args.lits.now in
     sym
-    (list_any_at (has_literal c.args.marks.now.trail) c.args.lits.now c.loop-lit.lit-index (record { 0 = pos 0 })
+    (list_any_at (has_literal c.args.assignment.now.trail) c.args.lits.now c.loop-lit.lit-index (record { 0 = pos 0 })
     c.loop-lit-test.true (sym c.makes_true.ensures ∙ c.if-makes_true.true))
     ∙ e
 
@@ -19,6 +19,6 @@ pub returns : goal.returns
 returns c =
     let e = ap (λ (trail : List Lit). list_any (has_literal trail) c.args.lits.now) c.requires.trail ∙ tautology_by_negations c.args.lits.now in
     let all : take c.loop-lit.lit-index c.args.lits.now ≡ c.args.lits.now = take_all c.loop-lit.lit-index c.args.lits.now (omega arith) in
-    let none : list_any (has_literal c.args.marks.now.trail) c.args.lits.now ≡ false =
-    subst (λ (ls : List Lit). list_any (has_literal c.args.marks.now.trail) ls ≡ false) all c.loop-lit.invariant in
+    let none : list_any (has_literal c.args.assignment.now.trail) c.args.lits.now ≡ false =
+    subst (λ (ls : List Lit). list_any (has_literal c.args.assignment.now.trail) ls ≡ false) all c.loop-lit.invariant in
     sym none ∙ e

@@ -6,8 +6,8 @@ use Rattle.prv_check.proofs.propagate.propagate.Given as goal
 
 abbrev pub invariant-loop-hint : goal.invariant-loop-hint
 invariant-loop-hint l =
-    (hints_fault l.fn.marks.trail (clauses_at (known l.cnf l.earlier) l.hints) ≡ hints_fault l.marks.trail (clauses_at (known l.cnf l.earlier) (left_at l.others l.last l.hint-index)))
-    × (trail_after l.fn.marks.trail (clauses_at (known l.cnf l.earlier) l.hints) ≡ trail_after l.marks.trail (clauses_at (known l.cnf l.earlier) (left_at l.others l.last l.hint-index)))
-    × (length l.marks.trail ≡ length l.fn.marks.trail + l.hint-index)
-    × (l.marks.vars ≡ l.fn.marks.vars)
-    × (l.marks.room ≡ l.fn.marks.room)
+    (hints_fault l.fn.assignment.trail (clauses_at (known l.cnf l.earlier) l.hints) ≡ hints_fault l.assignment.trail (clauses_at (known l.cnf l.earlier) (left_at l.others l.last l.hint-index)))
+    × (trail_after l.fn.assignment.trail (clauses_at (known l.cnf l.earlier) l.hints) ≡ trail_after l.assignment.trail (clauses_at (known l.cnf l.earlier) (left_at l.others l.last l.hint-index)))
+    × (length l.assignment.trail ≡ length l.fn.assignment.trail + l.hint-index)
+    × (l.assignment.vars ≡ l.fn.assignment.vars)
+    × (l.assignment.room ≡ l.fn.assignment.room)

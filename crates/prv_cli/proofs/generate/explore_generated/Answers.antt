@@ -1,6 +1,7 @@
 use Rattle.std.proofs.Common.{inl}
 use Rattle.std.proofs.lemmas.Result.{err_from_is_err_and}
 use Rattle.prv_gen.specs.Generated.{before_text, after_text}
+use Rattle.prv_line.specs.declared.limits.TheConstants.{TURNS}
 use Rattle.prv_line.specs.Commands.{defaults}
 use Rattle.prv_text.specs.Boards.{generated_report}
 use Rattle.prv_cli.specs.Pairings.{pair_of_texts}
@@ -20,4 +21,4 @@ returns-clause-done g c = λ told.
     let size = c.args.size in
     let texts = c.in_ok-texts.ensures in
     let paired = rw (c.as_slice.ensures.value, c.as_slice-2.ensures.value, texts.before, texts.after) at (c.in_ok-pair.ensures.done told) in
-    nothing-both told (pair_of_texts 32 (before_text number size) (after_text number size)) (show_exploration (generated_report number size) (plan_of defaults)) c.in_ok-pair.pair c.show_generated.result paired (c.show_generated.ensures.shown told)
+    nothing-both told (pair_of_texts TURNS.default (before_text number size) (after_text number size)) (show_exploration (generated_report number size) (plan_of defaults)) c.in_ok-pair.pair c.show_generated.result paired (c.show_generated.ensures.shown told)

@@ -9,6 +9,6 @@ returns-clause-shown g c = λ told. (
     ended = c.in_ok-explored.explored.ended;
     explored = c.in_ok-explored.ensures.explored;
     legal = c.in_ok-explored.ensures.legal;
-    shown_is = cc (c.in_ok-text.ensures, c.last_of-last.ensures, c.board_status-status.ensures);
+    shown_is = cc (c.in_ok-text.ensures, c.board_status-status.ensures);
   },
 )

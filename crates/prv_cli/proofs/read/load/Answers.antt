@@ -1,7 +1,8 @@
 use Rattle.std.proofs.Common.{Ok, Err, ap, subst, refl}
 use Rattle.prv_model.specs.declared.limits.TheConstants.{MAX_FILE}
+use Rattle.prv_lex.specs.declared.error.LexError.TheVariants.{Refused}
 use Rattle.prv_lex.specs.declared.error.LexWhy.TheVariants.{Long}
-use Rattle.prv_version.specs.declared.error.FileRefusal.TheVariants.{Lex}
+use Rattle.prv_version.specs.declared.error.VersionError.TheVariants.{Lex}
 use Rattle.prv_cli.specs.Steps.{nothing}
 use Rattle.prv_cli.specs.Readings.{read_file, version_of}
 use Rattle.prv_cli.specs.declared.refusal.Refusal.TheVariants as refusal
@@ -21,7 +22,7 @@ pub returns-in-Err-TooLong-clause-loaded : goal.returns-in-Err-TooLong-clause-lo
 returns-in-Err-TooLong-clause-loaded g c =
     let told = g.F.Files.known c.args.files.now in
     let name = c.args.name.now in
-    let why = refusal.File c.args.who (Lex MAX_FILE Long) in
+    let why = refusal.File c.args.who (Lex (Refused MAX_FILE Long)) in
     follows-refused g.F.Files.reads told c.args.files.now _ (read_file c.args.who name) (version_of c.args.who) why
     (follows-read g.F.Files.reads told _ _ c.args.who name (Err why) c.read.ensures.once (refl, refl, c.in-Err-TooLong.ensures.too_long (ap (λ e. Err e) c.in-Err-TooLong.field-0-is)))
 

@@ -7,7 +7,7 @@ use Rattle.prv_model.specs.declared.stmt.Stmt.{Stmt, the_lemmas}
 use Rattle.prv_dep.specs.declared.writes.Row.{Row}
 use Rattle.prv_dep.specs.Tables.{mask, row}
 use Rattle.prv_dep.specs.Dependences.{writes}
-use Rattle.prv_dep.proofs.RowLaws.{more-writes, more-leaves, more-rows, block-row, row-is, written-Set, written-If}
+use Rattle.prv_dep.proofs.RowLaws.{more-writes, more-leaves, more-rows, block-row, row-is, written-Set, overwritten-Set, written-If}
 use Rattle.prv_dep.proofs.writes.+rows.Goals as goal
 
 pub push-returns-clause-grows : goal.push-returns-clause-grows
@@ -30,7 +30,7 @@ push_all-loop-stmt-preserved t c =
 pub push_all-returns-clause-row : goal.push_all-returns-clause-row
 push_all-returns-clause-row t c =
     let whole : take c.loop-stmt.stmt-index c.args.all.now ≡ c.args.all.now = take_all c.loop-stmt.stmt-index c.args.all.now c.loop-stmt-test.false in
-    block-row c.args.all.now _ _ (rw whole at c.loop-stmt.invariant.writes) (rw whole at c.loop-stmt.invariant.leaves)
+    c.plain.ensures ∙ block-row c.args.all.now _ _ (rw whole at c.loop-stmt.invariant.writes) (rw whole at c.loop-stmt.invariant.leaves)
 
 pub push_inside-returns-in-Skip-clause-grows : goal.push_inside-returns-in-Skip-clause-grows
 push_inside-returns-in-Skip-clause-grows t c = added-none (λ s. row s) c.args.stmt.now _ (ap (λ (s : Stmt). inside s) c.in-Skip.is ∙ inside-Skip)
@@ -70,11 +70,12 @@ push_inside-returns-in_ok-inner-in-Marked-clause-grows t c =
 
 pub push_inside-returns-in-Set-clause-row : goal.push_inside-returns-in-Set-clause-row
 push_inside-returns-in-Set-clause-row t c =
-    c.plain-in-Set.ensures ∙ row-is c.args.stmt.now _ _ _ (written-Set c.args.stmt.now c.in-Set.var c.in-Set.value _ c.in-Set.is c.bit.ensures) (search (rules, the_lemmas)) (search (rules, the_lemmas))
+    row-is c.args.stmt.now _ _ _ _ (written-Set c.args.stmt.now c.in-Set.var c.in-Set.value _ c.in-Set.is c.bit.ensures)
+    (overwritten-Set c.args.stmt.now c.in-Set.var c.in-Set.value _ c.in-Set.is c.bit-in-Set.ensures) (search (rules, the_lemmas)) (search (rules, the_lemmas))
 
 pub push_inside-returns-in_ok-other-in-Some-clause-row : goal.push_inside-returns-in_ok-other-in-Some-clause-row
 push_inside-returns-in_ok-other-in-Some-clause-row t c =
     let first : c.in_ok-chosen-in-If.chosen.writes ≡ mask (writes c.in-If.yes) = ap (λ (r : Row). r.writes) c.in_ok-chosen-in-If.ensures.row ∙ ap (λ (s : Stmt). mask (writes s)) c.get.ensures in
     let second : c.in_ok-other-in-Some.other.writes ≡ mask (writes c.in-Some.branch) = ap (λ (r : Row). r.writes) c.in_ok-other-in-Some.ensures.row ∙ ap (λ (s : Stmt). mask (writes s)) c.get-in-Some.ensures in
-    c.plain-in-Some.ensures ∙ row-is c.args.stmt.now _ _ _ (written-If c.args.stmt.now c.in-If.test c.in-If.yes c.in-Some.branch c.in-If.no _ _ c.in-If.is c.in-Some.is first second)
-    (search (rules, the_lemmas)) (search (rules, the_lemmas))
+    c.plain-in-Some.ensures ∙ row-is c.args.stmt.now _ _ _ _ (written-If c.args.stmt.now c.in-If.test c.in-If.yes c.in-Some.branch c.in-If.no _ _ c.in-If.is c.in-Some.is first second)
+    (search (rules, the_lemmas)) (search (rules, the_lemmas)) (search (rules, the_lemmas))

@@ -11,7 +11,7 @@ loop-made-preserved g c =
     let lines = c.args.plan.lines in
     let turned = subst (λ (t : Turn). Turned b after lines t) c.in-Made.is c.in_ok-entry.ensures.turned in
     record {
-      under = under_way-more c.args.board.now.replay.pair b after lines c.loop-made.first c.loop-made.made c.in-Made.entry c.loop-made.invariant.under turned;
+      under = under_way-more c.args.board.now.replay.caps c.args.board.now.replay.pair b after lines c.loop-made.first c.loop-made.made c.in-Made.entry c.loop-made.invariant.under turned;
       within = omega arith;
     }
 
@@ -22,5 +22,5 @@ returns-in-Full g c =
     let full = c.in-Full in
     let turned = subst (λ (t : Turn). Turned b after c.args.plan.lines t) full.is c.in_ok-entry.ensures.turned in
     record {
-      explored = explored-full c.args.board.now.replay.pair c.args.plan b after c.loop-made.first c.loop-made.made full.entries full.numbers full.literals c.loop-made.invariant.under (omega arith) turned;
+      explored = explored-full c.args.board.now.replay.caps c.args.board.now.replay.pair c.args.plan b after c.loop-made.first c.loop-made.made full.reached c.loop-made.invariant.under (omega arith) turned;
     }

@@ -19,7 +19,7 @@ returns-in-Err-Full-clause-turned c =
     let s = c.in_ok-settled.settled in
     let t = arc_value c.in_ok-settlement.settlement in
     let full = c.in-Err-Full in
-    turned-full b c.apply.new.self.replay c.args.first c.args.lines c.in-Some.entry full.entries full.numbers full.literals s.finding t s.raw c.requires.below c.in-Some.ensures c.in_ok-settled.ensures c.settlement.ensures.supported
+    turned-full b c.apply.new.self.replay c.args.first c.args.lines c.in-Some.entry full.reached s.finding t s.raw c.requires.below c.in-Some.ensures c.in_ok-settled.ensures c.settlement.ensures.supported
     (c.in_ok-settlement.ensures ∙ c.settlement.ensures.value) (subst (λ (e : ApplyError). Refuses b t e) full.field-0-is full.ensures.refused) full.ensures.unchanged
 
 pub unreachable-requires : goal.unreachable-requires

@@ -6,7 +6,7 @@ use Rattle.prv_run.specs.declared.event.Event.{Event}
 use Rattle.prv_sym.specs.Calls.{Names, AllStand}
 use Rattle.prv_sym.proofs.Naming.{answered, still-in}
 use Rattle.prv_general.specs.Slices.{says_something}
-use Rattle.prv_general.specs.Walks.{conditions, condition_names, flagged, if_kept, along, symbols_at}
+use Rattle.prv_general.specs.Conditions.{conditions, condition_names, flagged, if_kept, along, symbols_at}
 use Rattle.prv_general.proofs.Making.{named-none, conditions-next, names-next, names-refused}
 use Rattle.prv_general.proofs.literals.literals.Goals as goal
 

@@ -2,7 +2,7 @@ use Rattle.std.proofs.Common.{take, Ok}
 use Rattle.std.specs.Prelude.{filter}
 use Rattle.prv_sym.specs.Calls.{Names, AllStand}
 use Rattle.prv_general.specs.Slices.{says_something}
-use Rattle.prv_general.specs.Walks.{conditions, condition_names, flagged, if_kept, along, symbols_at}
+use Rattle.prv_general.specs.Conditions.{conditions, condition_names, flagged, if_kept, along, symbols_at}
 use Rattle.prv_general.proofs.literals.literals.Given as goal
 
 -- the conditions so far are those of the evaluations so far, and these were named

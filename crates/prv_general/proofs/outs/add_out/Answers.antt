@@ -1,6 +1,6 @@
 use Rattle.std.proofs.Common.{ℕ, List, ◌++◌, sym, ◌∙◌, subst}
 use Rattle.prv_sym.specs.Calls.{AllStand}
-use Rattle.prv_general.specs.Walks.{event_outs}
+use Rattle.prv_general.specs.Conditions.{event_outs}
 use Rattle.prv_general.proofs.Standing.{puts-more}
 use Rattle.prv_general.proofs.outs.add_out.Goals as goal
 

@@ -3,7 +3,7 @@ use Rattle.prv_model.specs.declared.term.Term.{Term}
 use Rattle.prv_pool.specs.Tables.{term_at}
 use Rattle.prv_sym.specs.Calls.{AllStand}
 use Rattle.prv_sym.proofs.Naming.{there}
-use Rattle.prv_general.specs.Walks.{event_outs}
+use Rattle.prv_general.specs.Conditions.{event_outs}
 use Rattle.prv_general.proofs.Alongs.{along-more}
 use Rattle.prv_general.proofs.Standing.{all-at, all-in}
 use Rattle.prv_general.proofs.outs.outs.Goals as goal

@@ -1,7 +1,7 @@
 use Rattle.std.proofs.Common.{List, take}
 use Rattle.prv_model.specs.declared.term.Term.{Term}
 use Rattle.prv_sym.specs.Calls.{AllStand}
-use Rattle.prv_general.specs.Walks.{along, event_outs}
+use Rattle.prv_general.specs.Conditions.{along, event_outs}
 use Rattle.prv_general.proofs.outs.outs.Given as goal
 
 -- the nodes so far are those of the evaluations so far

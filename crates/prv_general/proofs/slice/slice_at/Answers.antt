@@ -63,6 +63,7 @@ returns c =
       fixes = λ y is h.
           fixes-outcome p c.args.turns x y here.input is (ap (λ (ts : List Term). holds ts y) (sym literals) ∙ h)
           ∙ (λ i. record { outs = map (λ t. term_value t y) (sym outs i); how = sym how i });
+      outcome = c.in_ok-traced.ensures.outcome;
       member = ap (λ (ts : List Term). holds ts x) literals ∙ holds-member p c.args.turns x here.input;
       names = answered _ _ _ _ _ (c.in_ok-nodes.ensures.names x c.args.turns here flags);
     }

@@ -1,5 +1,6 @@
-use Rattle.std.proofs.Common.{◌≡◌, ℕ, ◌+◌, false, List, [], ◌∷◌, ◌++◌, length, take, drop, map, sym, ◌∙◌, ap, subst, arith, rules, length-append, Vec, Global}
+use Rattle.std.proofs.Common.{◌≡◌, ℕ, ◌+◌, ◌≤◌, false, All, List, [], ◌∷◌, ◌++◌, length, take, drop, map, sym, ◌∙◌, ap, subst, arith, rules, length-append, Vec, Global}
 use Rattle.std.proofs.lemmas.List.{map-append}
+use Rattle.std.proofs.lemmas.List.Elements.{All-push}
 use Rattle.prv_journal.specs.Records.{Damaged, is_whole}
 use Rattle.prv_journal.specs.Ends.{Opens}
 use Rattle.prv_journal.proofs.RecordsNext.{Whole, to-end, whole-split, read-within, read-opens, read-damaged, read-ends}
@@ -26,7 +27,10 @@ loop-end-preserved c =
     let payloads_are : map items c.push.new.self.items ≡ map items l.payloads.items ++ body ∷ [] =
     ap (map items) pushed ∙ map-append items l.payloads.items (c.in_ok-to_vec.field-0 ∷ []) ∙ ap (λ (p : List ℕ). map items l.payloads.items ++ p ∷ []) copied in
     let count : length c.push.new.self.items ≡ length l.payloads.items + 1 = ap length pushed ∙ length-append l.payloads.items (c.in_ok-to_vec.field-0 ∷ []) in
-    (read-within bytes l.end body l.invariant.0 c.loop-end-test.true w, omega (arith, l.invariant.1, w.short, count), subst (λ (ps : List (List ℕ)). Opens (take (l.end + (5 + length body)) bytes) ps) (sym payloads_are) (read-opens bytes l.end (map items l.payloads.items) body l.invariant.0 c.loop-end-test.true l.invariant.2 w))
+    let short : length c.in_ok-to_vec.field-0.items ≤ 17000000 = omega (arith, ap length copied, w.short) in
+    let is_short : Vec ℕ Global → Type 0 = λ (v : Vec ℕ Global). length v.items ≤ 17000000 in
+    let all_short : All is_short c.push.new.self.items = subst (All is_short) (sym pushed) (All-push is_short l.payloads.items c.in_ok-to_vec.field-0 l.invariant.3 short) in
+    (read-within bytes l.end body l.invariant.0 c.loop-end-test.true w, omega (arith, l.invariant.1, w.short, count), subst (λ (ps : List (List ℕ)). Opens (take (l.end + (5 + length body)) bytes) ps) (sym payloads_are) (read-opens bytes l.end (map items l.payloads.items) body l.invariant.0 c.loop-end-test.true l.invariant.2 w), all_short)
 
 pub returns-clause-ends : goal.returns-clause-ends
 returns-clause-ends c =

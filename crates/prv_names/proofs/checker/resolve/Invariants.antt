@@ -1,6 +1,6 @@
 use Rattle.std.proofs.Common.{◌≡◌, length, drop, fold}
 use Rattle.prv_names.specs.Scopes.{start, after, first_fault}
-use Rattle.prv_names.specs.Walks.{standing_of, IsNested}
+use Rattle.prv_names.specs.ScopeStacks.{standing_of, IsNested}
 use Rattle.prv_names.proofs.checker.resolve.Given as goal
 
 -- what is wrong from here, and what will be declared, is so from the start

@@ -1,5 +1,6 @@
-use Rattle.prv_parse.proofs.CompleteTrees.{tree_unique}
+use Rattle.prv_parse.proofs.Parsed.{one-tree}
+use Rattle.prv_parse.proofs.Sizes.{tree-small}
 use Rattle.prv_parse.proofs.laws.one_tree.Goals as goal
 
 pub returns : goal.returns
-returns c = tree_unique
+returns c = one-tree

@@ -1,11 +1,13 @@
 use Rattle.std.proofs.Common.{◌≡◌, ◌++◌, drop, sym, ap, ◌∙◌, subst, ◌⊎◌}
 use Rattle.prv_parse.specs.Reader.{program}
-use Rattle.prv_parse.specs.Refusals.{HasTree, place_of}
+use Rattle.prv_rule.specs.Refusals.{place_of}
+use Rattle.prv_parse.specs.Refusals.{HasTree}
 use Rattle.prv_parse.specs.Cursors.{left}
 use Rattle.prv_parse.specs.Statements.{skeleton_in}
 use Rattle.prv_parse.specs.MainFunctions.{program_with, refusal_of}
 use Rattle.prv_parse.specs.declared.error.ParseError.TheVariants.{Syntax, Deep, Memory}
-use Rattle.prv_parse.proofs.Parsed.{read-tree, tree-small, read-one, read-no-syntax, read-no-deep, stopped-syntax, stopped-deep, stopped-tree, told-syntax, told-deep}
+use Rattle.prv_parse.proofs.Sizes.{tree-small}
+use Rattle.prv_parse.proofs.Parsed.{read-tree, read-one, read-no-syntax, read-no-deep, stopped-syntax, stopped-deep, stopped-tree, told-syntax, told-deep}
 use Rattle.prv_parse.proofs.parser.parse.Goals as goal
 
 pub invariant_of-result : goal.invariant_of-result

@@ -1,28 +1,26 @@
-use Rattle.std.proofs.Common.{rules, ◌≡◌, ◌≤◌, ◌+◌, List, ◌∷◌, length, arith, refl, sym, ap, ◌∙◌, Option, Some, None, subst, FitsSigned, drop, get_or, true, false, ℕ}
-use Rattle.std.proofs.lemmas.List.{drop_more, drop_all}
+use Rattle.std.proofs.Common.{rules, ◌≡◌, ◌≤◌, ◌+◌, List, ◌∷◌, length, arith, refl, sym, ap, ◌∙◌, Option, Some, None, subst, FitsSigned, drop, true, ℕ}
+use Rattle.std.proofs.lemmas.List.{drop_more}
 use Rattle.std.specs.Int.{w32}
-use Rattle.std.specs.Option.{option_map}
 use denote.Param.Weighed.{most, at_most}
 use Rattle.prv_model.specs.Words.{is_zero}
 use Rattle.prv_model.specs.Programs.{stmt_over}
 use Rattle.prv_model.specs.Expressions.{value}
-use Rattle.prv_model.specs.Numbers.{inside, statements, statements_all, branch_inside}
-use Rattle.prv_model.specs.Statements.{Frame, Step, exec, exec_all, and_then, goes, ends, spend}
-use Rattle.prv_model.specs.declared.expr.Expr.{Expr}
+use Rattle.prv_model.specs.Numbers.{statements, statements_all}
+use Rattle.prv_model.specs.Statements.{Frame, Step, exec, exec_all, and_then, goes, spend}
 use Rattle.prv_model.specs.declared.outcome.Ending.{Ending}
 use Rattle.prv_model.specs.declared.stmt.Stmt.{Stmt, the_lemmas}
-use Rattle.prv_model.specs.declared.stmt.Stmt.TheVariants.{Skip, Set, If, While, Return, Out, Assert, Block, Marked}
+use Rattle.prv_model.specs.declared.stmt.Stmt.TheVariants.{Skip, If}
 use Rattle.prv_model.proofs.stmt.Stmt.TheLaws.{the_size}
 use Rattle.prv_model.proofs.WordLemmas.{is_zero-bits}
 use Rattle.prv_run.specs.declared.event.Event.{Event}
 use Rattle.prv_run.specs.declared.record.Recorder.{Recorder}
 use Rattle.prv_run.specs.Frames.{frame_of, step_of}
 use Rattle.prv_run.specs.Runs.{Run, runs, runs_all, events}
-use Rattle.prv_run.specs.Telling.{tell, Knows, Agrees}
+use Rattle.prv_run.specs.Telling.{tell, Knows}
 use Rattle.prv_run.proofs.RunLaws.{runs-Skip, runs-Return, runs-Out, runs-Block, runs-Marked, runs-While}
 use Rattle.prv_run.proofs.Steps.{all_true-at, none-is, some-is}
 use Rattle.prv_run.proofs.Tellings.{knows-on, agrees-on, knows-front, knows-behind, tell-nothing, tell-agrees}
-use Rattle.prv_run.proofs.ToldLaws.{knows-If, knows-While, knows-Block, knows-Marked, told-fault, told-then, told-no-else, told-else, told-next, told-last, told-turn, told-ending, loop-left, loop-done, loop-long, loop-ending}
+use Rattle.prv_run.proofs.ToldLaws.{knows-If, knows-While, knows-Block, knows-Marked, told-fault, told-then, told-else, told-next, told-turn, told-ending, loop-left, loop-done, loop-long, loop-ending}
 use Rattle.prv_run.proofs.execute.+execute.Goals as goal
 
 -- what the statement of a variant is told of
@@ -43,15 +41,13 @@ execute-execute-requires t c =
     let inner = knows-front _ _ _ _ (knows-If _ c.args.number _ _ _ _ known (c.inside-first.ensures whole known)) in
     (search (rules, the_lemmas), (search (rules, the_lemmas), subst (λ (s : Stmt). Knows c.evaluate.new.self c.inside-first.result (statements s)) (sym c.get.ensures) inner))
 
-pub execute-execute-requires-in-Some-no : goal.execute-execute-requires-in-Some-no
-execute-execute-requires-in-Some-no t c =
+pub execute-execute_else-requires : goal.execute-execute_else-requires
+execute-execute_else-requires t c =
     let whole = If c.in-If.test c.in-If.yes c.in-If.no in
     let known = knows-on _ _ _ c.args.number (statements whole) c.in_ok-found-in-If.ensures.told (known_as _ _ _ whole c.in-If.is c.requires.known) in
     let inner = knows-If _ c.args.number _ _ _ _ known (c.inside-first.ensures whole known) in
     let behind = knows-behind _ _ c.behind-second.result c.in-If.yes _ inner (c.behind-second.ensures c.in-If.yes (knows-front _ _ _ _ inner)) in
-    let same : branch_inside (option_map (λ (s : Stmt). (s, inside s)) c.in-If.no) ≡ statements c.get-in-Some-no.result.now =
-    ap (λ (o : Option Stmt). branch_inside (option_map (λ (s : Stmt). (s, inside s)) o)) c.in-Some-no.is ∙ ap (λ (s : Stmt). statements s) (sym c.get-in-Some-no.ensures) in
-    (search (rules, the_lemmas), (search (rules, the_lemmas), subst (λ (flat : List Stmt). Knows c.evaluate.new.self c.behind-second.result flat) same behind))
+    (search (rules, the_lemmas), (search (rules, the_lemmas), behind))
 
 pub execute-returns-in-None-clause-told : goal.execute-returns-in-None-clause-told
 execute-returns-in-None-clause-told t c =
@@ -68,23 +64,17 @@ execute-returns-in_ok-ending-in-Some-clause-told t c =
     (told-then _ _ _ _ _ _ c.args.number c.inside-first.result (frame_of c.args.frame.now) c.in-Some.n found (is_zero-bits c.in-Some.n fits.sfits c.if-n-ne0.true)
     (rw c.as_slice.ensures at c.in_ok-found-in-If.ensures.told) (c.inside-first.ensures whole known) (rw c.get.ensures at c.in_ok-ending-in-Some.ensures.told))
 
-pub execute-returns-in-None-no-clause-told : goal.execute-returns-in-None-no-clause-told
-execute-returns-in-None-no-clause-told t c =
-    let found : value c.in-If.test c.args.frame.now.state ≡ Some c.in-Some.n = rw (← c.as_slice.ensures) (sym c.in_ok-found-in-If.ensures.value ∙ c.in-Some.is) in
-    let zeroed : is_zero c.in-Some.n ≡ true = search rules in
-    as_stmt _ _ _ _ _ _ c.in-If.is (told-no-else _ _ _ _ _ c.args.number (frame_of c.args.frame.now) c.in-Some.n found zeroed c.in-None-no.is (rw c.as_slice.ensures at c.in_ok-found-in-If.ensures.told))
-
-pub execute-returns-in_ok-ending-in-Some-no-clause-told : goal.execute-returns-in_ok-ending-in-Some-no-clause-told
-execute-returns-in_ok-ending-in-Some-no-clause-told t c =
+pub execute-returns-in_ok-ending-in-Some-2-clause-told : goal.execute-returns-in_ok-ending-in-Some-2-clause-told
+execute-returns-in_ok-ending-in-Some-2-clause-told t c =
     let whole = If c.in-If.test c.in-If.yes c.in-If.no in
     let known = knows-on _ _ _ c.args.number (statements whole) c.in_ok-found-in-If.ensures.told (known_as _ _ _ whole c.in-If.is c.requires.known) in
     let inner = knows-If _ c.args.number _ _ _ _ known (c.inside-first.ensures whole known) in
     let found : value c.in-If.test c.args.frame.now.state ≡ Some c.in-Some.n = rw (← c.as_slice.ensures) (sym c.in_ok-found-in-If.ensures.value ∙ c.in-Some.is) in
     let zeroed : is_zero c.in-Some.n ≡ true = search rules in
     as_stmt _ _ _ _ _ _ c.in-If.is
-    (told-else _ _ _ _ _ c.in-Some-no.branch _ c.args.number c.inside-first.result c.behind-second.result (frame_of c.args.frame.now) c.in-Some.n found zeroed
-    c.in-Some-no.is (rw c.as_slice.ensures at c.in_ok-found-in-If.ensures.told)
-    (c.inside-first.ensures whole known) (c.behind-second.ensures c.in-If.yes (knows-front _ _ _ _ inner)) (rw c.get-in-Some-no.ensures at c.in_ok-ending-in-Some-no.ensures.told))
+    (told-else _ _ _ _ _ _ c.args.number c.inside-first.result c.behind-second.result (frame_of c.args.frame.now) c.in-Some.n found zeroed
+    (rw c.as_slice.ensures at c.in_ok-found-in-If.ensures.told)
+    (c.inside-first.ensures whole known) (c.behind-second.ensures c.in-If.yes (knows-front _ _ _ _ inner)) c.in_ok-ending-in-Some-2.ensures.told)
 
 pub execute-execute_all-requires : goal.execute-execute_all-requires
 execute-execute_all-requires t c =
@@ -92,8 +82,8 @@ execute-execute_all-requires t c =
       search (rules, the_lemmas),
       (
         search (rules, the_lemmas),
-        subst (λ (all : List Stmt). Knows c.args.recorder.now c.inside-first-in-Block.result (statements_all all)) (sym c.as_slice-in-Block.ensures)
-            (knows-Block _ c.args.number _ _ known (c.inside-first-in-Block.ensures _ known)),
+        subst (λ (all : List Stmt). Knows c.args.recorder.now c.inside.result (statements_all all)) (sym c.as_slice-in-Block.ensures)
+            (knows-Block _ c.args.number _ _ known (c.inside.ensures _ known)),
       ),
     )
 
@@ -103,8 +93,8 @@ execute-execute-requires-in-Marked t c =
       search (rules, the_lemmas),
       (
         search (rules, the_lemmas),
-        subst (λ (s : Stmt). Knows c.args.recorder.now c.inside-first-in-Marked.result (statements s)) (sym c.get-in-Marked.ensures)
-            (knows-Marked _ c.args.number _ c.in-Marked.mark _ known (c.inside-first-in-Marked.ensures _ known)),
+        subst (λ (s : Stmt). Knows c.args.recorder.now c.inside-in-Marked.result (statements s)) (sym c.get-in-Marked.ensures)
+            (knows-Marked _ c.args.number _ c.in-Marked.mark _ known (c.inside-in-Marked.ensures _ known)),
       ),
     )
 
@@ -121,13 +111,13 @@ pub execute-returns-in_ok-ending-in-Block-clause-told : goal.execute-returns-in_
 execute-returns-in_ok-ending-in-Block-clause-told t c =
     let known = known_as _ _ _ _ c.in-Block.is c.requires.known in
     as_run _ _ _ _ _ _ _ c.in-Block.is (runs-Block c.in-Block.all c.args.number (frame_of c.args.frame.now))
-    ((rw c.as_slice-in-Block.ensures at c.in_ok-ending-in-Block.ensures.told) ∙ tell-agrees _ (λ k. events (runs_all c.in-Block.all k (frame_of c.args.frame.now))) _ _ (c.inside-first-in-Block.ensures _ known))
+    ((rw c.as_slice-in-Block.ensures at c.in_ok-ending-in-Block.ensures.told) ∙ tell-agrees _ (λ k. events (runs_all c.in-Block.all k (frame_of c.args.frame.now))) _ _ (c.inside.ensures _ known))
 
 pub execute-returns-in_ok-ending-in-Marked-clause-told : goal.execute-returns-in_ok-ending-in-Marked-clause-told
 execute-returns-in_ok-ending-in-Marked-clause-told t c =
     let known = known_as _ _ _ _ c.in-Marked.is c.requires.known in
     as_run _ _ _ _ _ _ _ c.in-Marked.is (runs-Marked c.in-Marked.mark c.in-Marked.body c.args.number (frame_of c.args.frame.now))
-    ((rw c.get-in-Marked.ensures at c.in_ok-ending-in-Marked.ensures.told) ∙ tell-agrees _ (λ k. events (runs c.in-Marked.body k (frame_of c.args.frame.now))) _ _ (c.inside-first-in-Marked.ensures _ known))
+    ((rw c.get-in-Marked.ensures at c.in_ok-ending-in-Marked.ensures.told) ∙ tell-agrees _ (λ k. events (runs c.in-Marked.body k (frame_of c.args.frame.now))) _ _ (c.inside-in-Marked.ensures _ known))
 
 pub execute_all-execute-requires : goal.execute_all-execute-requires
 execute_all-execute-requires t c =

@@ -11,7 +11,7 @@ add_line-requires c =
     let f = c.args.cnf.now in
     let old = c.args.state.now in
     let lines : c.as_slice.result.now ≡ old.lines.items = rw c.in_ok-end.ensures.lines at c.as_slice.ensures.value in
-    let a : IsAddable f c.as_slice.result.now c.cut_back.new.state.trail c.cut_back.new.state.watches c.args.line.clause c.args.lit c.args.keep = rw (lines, c.in_ok-end.ensures.trail, c.in_ok-end.ensures.watches) (addable f old.lines.items old.trail old.watches c.args.line c.args.lit c.args.keep c.in_ok-end.end c.requires.state c.steps.ensures.assigned c.requires.lesson c.in_ok-end.ensures.cut) in
+    let a : IsAddable f c.as_slice.result.now c.cut_back.new.state.trail c.cut_back.new.state.watches c.args.line.clause c.args.lit c.args.keep = rw (lines, c.in_ok-end.ensures.trail, c.in_ok-end.ensures.watches) (addable f old.lines.items old.trail old.watches c.args.line c.args.lit c.args.keep c.in_ok-end.end c.requires.state c.steps.ensures.assigned c.requires.clause c.in_ok-end.ensures.cut) in
     record {
       sound = a.sound;
       propagated = a.propagated;

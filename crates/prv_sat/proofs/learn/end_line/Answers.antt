@@ -1,5 +1,5 @@
 use Rattle.std.proofs.Common.{◌≡◌, [], reverse}
-use Rattle.prv_sat.proofs.Teaching.{line_end}
+use Rattle.prv_sat.proofs.Learning.{line_end}
 use Rattle.prv_sat.proofs.learn.end_line.Goals as goal
 
 pub returns : goal.returns

@@ -1,4 +1,4 @@
-use Rattle.prv_select.specs.Marks.{has_mark}
+use Rattle.prv_select.specs.MarkSets.{has_mark}
 use Rattle.prv_select.proofs.Steps.{rising-none, rising-next}
 use Rattle.prv_select.proofs.choice.marks_below.Goals as goal
 

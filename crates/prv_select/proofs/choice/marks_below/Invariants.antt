@@ -1,6 +1,6 @@
 use Rattle.std.proofs.Common.{◌≡◌}
 use Rattle.prv_select.specs.Choices.{rising_below}
-use Rattle.prv_select.specs.Marks.{has_mark}
+use Rattle.prv_select.specs.MarkSets.{has_mark}
 use Rattle.prv_select.proofs.choice.marks_below.Given as goal
 
 -- the marks so far

@@ -1,7 +1,7 @@
 use Rattle.std.proofs.Common.{ap, sym, ◌∙◌, true, false}
 use Rattle.prv_dep.specs.declared.writes.Row.{Row}
 use Rattle.prv_select.specs.declared.places.Place.{Place}
-use Rattle.prv_select.specs.Walks.{is_relevant}
+use Rattle.prv_select.specs.BackwardWalks.{is_relevant}
 use Rattle.prv_select.proofs.Steps.{outward-none, outward-some}
 use Rattle.prv_select.proofs.walk.outermost.Goals as goal
 use Rattle.prv_select.proofs.walk.outermost.Goals.{in-None, in-Some, then-not-is_relevant, else-not-is_relevant}

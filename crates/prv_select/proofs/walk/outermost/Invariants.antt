@@ -1,5 +1,5 @@
 use Rattle.std.proofs.Common.{◌≡◌, ◌-◌}
-use Rattle.prv_select.specs.Walks.{or_else, outermost}
+use Rattle.prv_select.specs.BackwardWalks.{or_else, outermost}
 use Rattle.prv_select.proofs.walk.outermost.Given as goal
 
 -- the outermost of those that are left, or else the one found so far, is the outermost of all

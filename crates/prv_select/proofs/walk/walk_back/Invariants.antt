@@ -1,5 +1,5 @@
 use Rattle.std.proofs.Common.{◌≡◌, ◌≤◌, length, drop}
-use Rattle.prv_select.specs.Walks.{back}
+use Rattle.prv_select.specs.BackwardWalks.{back}
 use Rattle.prv_select.proofs.walk.walk_back.Given as goal
 
 -- the evaluations from here on were passed

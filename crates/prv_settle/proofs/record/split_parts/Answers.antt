@@ -12,21 +12,21 @@ use Rattle.prv_settle.proofs.record.split_parts.Goals as goal
 
 pub returns : goal.returns
 returns c =
-    let cut = c.args.cut in
+    let cut = c.args.halves.cut in
     let whole : List Term = terms_at cut.pool.terms cut.partition.items in
     let long = length-map cut.partition.items (term_at cut.pool.terms) in
-    let a = term_at cut.pool.terms c.args.first in
-    let b = term_at cut.pool.terms c.args.second in
+    let a = term_at cut.pool.terms c.args.halves.first in
+    let b = term_at cut.pool.terms c.args.halves.second in
     let all : cut.region + c.literals-literals.result ≡ length whole = omega arith in
     let half = c.in_ok-half.ensures ∙ half-first cut.region whole c.in_ok-terms.terms a b (cut.region + c.literals-literals.result) c.in_ok-terms.ensures all in
     let other = c.in_ok-half-2.ensures ∙ half-second cut.region whole c.in_ok-terms.terms a b (cut.region + c.literals-literals.result) c.in_ok-terms.ensures all in
     let kept = c.in_ok-marks.ensures.items ∙ c.as_slice.ensures.value in
     let marks = c.as_slice-2.ensures.value ∙ kept in
     let marks-too = c.as_slice-3.ensures.value ∙ kept in
-    let one : Part = record { region = whole ++ a ∷ []; kind = claimed c.args.agree c.args.member.now; marks = cut.marks.items } in
-    let two : Part = second_of c.args.agree c.args.other.now cut.marks.items (whole ++ b ∷ []) in
+    let one : Part = record { region = whole ++ a ∷ []; kind = claimed c.args.halves.agree c.args.member.now; marks = cut.marks.items } in
+    let two : Part = second_of c.args.halves.agree c.args.other.now cut.marks.items (whole ++ b ∷ []) in
     let first : c.in_ok-decided_part.field-0 ≡ one = c.in_ok-decided_part.ensures ∙ (λ i. record { region = half i; kind = c.in_ok-kind.ensures i; marks = marks i }) in
-    let second : c.in_ok-second_part.field-0 ≡ two = c.in_ok-second_part.ensures ∙ (λ i. second_of c.args.agree c.args.other.now (marks-too i) (other i)) in
+    let second : c.in_ok-second_part.field-0 ≡ two = c.in_ok-second_part.ensures ∙ (λ i. second_of c.args.halves.agree c.args.other.now (marks-too i) (other i)) in
     let begun : c.push.new.self.items ≡ one ∷ [] = c.in_ok-push.ensures.items ∙ (λ i. c.new-list.ensures.items i ++ first i ∷ []) in
     let old : c.push-2.new.self.items ≡ one ∷ two ∷ [] = c.in_ok-push-2.ensures.items ∙ (λ i. begun i ++ second i ∷ []) in
     let list = listed cut.region c.literals-literals.result whole (a ∷ b ∷ []) c.in_ok-terms.terms c.in_ok-terms.ensures (omega arith) (omega arith) (cut.region + c.literals-literals.result + 2) (one ∷ two ∷ []) c.push-2.new.self.items c.add_rests.new.parts.items (omega arith) old c.in_ok-add_rests.ensures in
@@ -35,6 +35,6 @@ returns c =
       terms =
           c.count.ensures
           ∙ ap (λ (ts : List Term). length (subterms ts)) c.in_ok-terms.ensures
-          ∙ ap (λ (ts : List Term). length ts) (split-terms cut.region whole a b one two refl (second-region-of c.args.agree c.args.other.now cut.marks.items (whole ++ b ∷ [])))
+          ∙ ap (λ (ts : List Term). length ts) (split-terms cut.region whole a b one two refl (second-region-of c.args.halves.agree c.args.other.now cut.marks.items (whole ++ b ∷ [])))
           ∙ sym (ap (λ (ps : List Part). length (parts_terms ps)) list);
     }

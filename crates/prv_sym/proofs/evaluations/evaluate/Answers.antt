@@ -1,7 +1,7 @@
 use Rattle.std.proofs.Common.{List, sym, subst}
 use Rattle.std.proofs.lemmas.Result.{err_from_is_err_and}
 use Rattle.prv_sym.specs.declared.evaluations.Walk.{Walk}
-use Rattle.prv_sym.specs.declared.nodes.Slot.{Slot}
+use Rattle.prv_sym.specs.declared.symbol_nodes.Slot.{Slot}
 use Rattle.prv_sym.specs.Calls.{StandsFor, AreSlots, terms_of}
 use Rattle.prv_sym.specs.Symbols.{symbol}
 use Rattle.prv_sym.specs.Walks.{Reached, seen, with_own}

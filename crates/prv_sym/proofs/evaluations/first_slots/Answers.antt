@@ -3,7 +3,7 @@ use Rattle.std.proofs.lemmas.List.{append-nil}
 use lib.ListN.{replicate, replicate-append-replicate}
 use Rattle.prv_model.specs.declared.term.Term.{Term}
 use Rattle.prv_model.specs.declared.term.Term.TheVariants.{Param, Num}
-use Rattle.prv_sym.specs.declared.nodes.Slot.{Slot}
+use Rattle.prv_sym.specs.declared.symbol_nodes.Slot.{Slot}
 use Rattle.prv_sym.specs.Calls.{AreSlots, terms_of}
 use Rattle.prv_sym.specs.Symbols.{params_from}
 use Rattle.prv_sym.proofs.Along.{slots-more, terms-more, params-next}

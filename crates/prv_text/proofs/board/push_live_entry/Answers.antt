@@ -17,10 +17,11 @@ returns-in-Some c =
     let part = c.in-Some.part.now in
     let found : part_at (slots b) n ≡ Some part = sym c.entry.ensures.value ∙ ap (λ o. option_copied o) c.in-Some.is in
     let names_are = c.as_slice.ensures ∙ ap (λ (p : Pair). p.before.names) (c.deref.ensures ∙ c.pair.ensures) in
-    on-ok c.push_part.result
-    (λ written. live-one (names_of b) n (part_at (slots b) n) part old c.push_part.new.out.items found
-    (written ∙ ap (λ (names : List (List ℕ)). old ++ entry_line names (numbered n part)) names_are))
-    c.push_part.ensures
+    on-ok c.push_line.result
+    (λ written. live-one (names_of b) n (part_at (slots b) n) part old c.push_line.new.out.items found
+    (written ∙ ap (λ (marks : List ℕ). old ++ entry_line c.as_slice.result.now (record { number = n; terms = part.region; kind = part.kind; marks = marks })) c.as_slice-in-Some.ensures
+    ∙ ap (λ (names : List (List ℕ)). old ++ entry_line names (numbered n part)) names_are))
+    c.push_line.ensures
 
 pub returns-in-None : goal.returns-in-None
 returns-in-None c =

@@ -18,7 +18,7 @@ overflow_cast-place c =
     let i = c.self.inside in
     let k = c.self.invariant.tree in
     let sums = ap (λ (t : Totals). t.numbers) k.totals in
-    omega (arith, few-settlements (replay_of i).history k.settlements, sums, k.few_numbers, c.len-place.ensures, i.settlements.ok, length-map (λ s. arc_value s) i.settlements.items)
+    omega (arith, few-settlements (replay_of i).history k.settlements, sums, k.fits.numbers, k.caps.few_numbers, c.len-place.ensures, i.settlements.ok, length-map (λ s. arc_value s) i.settlements.items)
 
 pub retire-requires : goal.retire-requires
 retire-requires c =

@@ -26,7 +26,7 @@ literals-requires c =
 pub overflow_add-result-4 : goal.overflow_add-result-4
 overflow_add-result-4 c =
     let e = ap (λ (ps : List Part). literals_of ps) c.parts-parts.ensures.value in
-    omega (arith, e, c.literals.ensures, literals-sum c.args.settlement.now.parts, c.parts-parts.ensures.kept.few_literals, c.totals-now.ensures.few_literals)
+    omega (arith, e, c.literals.ensures, literals-sum c.args.settlement.now.parts, c.parts-parts.ensures.kept.few_literals, c.totals-now.ensures.fits.literals, c.totals-now.ensures.caps.few_literals)
 
 pub returns : goal.returns
 returns c =

@@ -67,6 +67,13 @@ returns-in-Err-Memory-clause-memory g c =
     (λ has. has-payloads _ _ c.self.inside.end image s has)
     ((c.append_record.ensures.memory memory tells s).each (g.D.Disk.moment c.self.inside.disk) image (omega arith) left))
 
+pub returns-in-Err-Memory-clause-earlier_memory : goal.returns-in-Err-Memory-clause-earlier_memory
+returns-in-Err-Memory-clause-earlier_memory g c =
+    let memory : IsErrOf c.append_record.result Memory = search rules in
+    rw (← c.self.view_is) (λ is tells.
+    let s = (c.self.invariant.1 tells c.if-self.false).settled in
+    adds-weaker _ _ _ _ _ _ (c.append_record.ensures.memory memory tells s) (λ image has. has-payloads _ _ c.self.inside.end image s has))
+
 pub returns-in-Err-Memory-clause-same : goal.returns-in-Err-Memory-clause-same
 returns-in-Err-Memory-clause-same g c =
     let memory : IsErrOf c.append_record.result Memory = search rules in

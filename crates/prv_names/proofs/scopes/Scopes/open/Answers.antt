@@ -1,5 +1,5 @@
 use Rattle.std.proofs.Common.{List, ℕ, sym, subst, length, ◌++◌, ◌∷◌, [], ◌≡◌}
-use Rattle.prv_names.specs.Walks.{IsNested}
+use Rattle.prv_names.specs.ScopeStacks.{IsNested}
 use Rattle.prv_names.proofs.NestingLemmas.{nested-push}
 use Rattle.prv_names.proofs.scopes.Scopes.open.Goals as goal
 

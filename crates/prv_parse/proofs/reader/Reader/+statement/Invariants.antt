@@ -1,7 +1,7 @@
 use Rattle.std.proofs.Common.{◌≡◌, ◌+◌, ◌-◌, ◌*◌, ◌++◌, List}
 use Rattle.prv_parse.specs.Reader.{statements, items, items_with, bind, Done}
 use Rattle.prv_parse.specs.Cursors.{left}
-use Rattle.prv_parse.specs.declared.skeleton.Skel.{Skel}
+use Rattle.prv_rule.specs.declared.skeleton.Skel.{Skel}
 use Rattle.prv_parse.proofs.reader.Reader.+statement.Given as goal
 
 abbrev pub decreases-statement : goal.decreases-statement

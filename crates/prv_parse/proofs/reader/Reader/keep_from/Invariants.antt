@@ -1,5 +1,5 @@
 use Rattle.std.proofs.Common.{◌≡◌, ◌++◌, take}
-use Rattle.prv_parse.specs.Skeletons.{plain}
+use Rattle.prv_rule.specs.Skeletons.{plain}
 use Rattle.prv_parse.proofs.reader.Reader.keep_from.Given as goal
 
 abbrev pub invariant-loop-token : goal.invariant-loop-token

@@ -1,6 +1,6 @@
 use Rattle.std.proofs.Common.{rules, ◌≡◌, ◌+◌, ◌-◌, ◌++◌, ◌∷◌, [], length, drop, arith, sym, ap, subst, ◌∙◌, append_assoc}
 use Rattle.prv_parse.specs.Reader.{param, params, params_with, Done}
-use Rattle.prv_parse.specs.Skeletons.{kept}
+use Rattle.prv_rule.specs.Skeletons.{kept}
 use Rattle.prv_parse.specs.Cursors.{left, StopsBy}
 use Rattle.prv_parse.specs.Statements.{ReadsParams, skeleton_in}
 use Rattle.prv_parse.specs.MainFunctions.{behind_params}

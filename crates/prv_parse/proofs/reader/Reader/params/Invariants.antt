@@ -2,7 +2,7 @@ use Rattle.std.proofs.Common.{◌≡◌, ◌-◌, ◌++◌, List}
 use Rattle.prv_parse.specs.Reader.{params}
 use Rattle.prv_parse.specs.Cursors.{left}
 use Rattle.prv_parse.specs.MainFunctions.{behind_params}
-use Rattle.prv_parse.specs.declared.skeleton.Skel.{Skel}
+use Rattle.prv_rule.specs.declared.skeleton.Skel.{Skel}
 use Rattle.prv_parse.proofs.reader.Reader.params.Given as goal
 
 abbrev pub invariant-loop-count : goal.invariant-loop-count

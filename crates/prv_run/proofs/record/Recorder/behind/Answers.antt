@@ -2,7 +2,6 @@ use Rattle.std.proofs.Common.{◌≡◌, ◌+◌, Some, ap, sym, ◌∙◌, arit
 use Rattle.prv_model.specs.Programs.{stmt_count}
 use Rattle.prv_model.specs.Numbers.{statements}
 use Rattle.prv_run.specs.declared.record.Recorder.{Recorder}
-use Rattle.prv_run.specs.declared.record.Recorder.TheVariants.{On}
 use Rattle.prv_run.specs.Telling.{Knows, Agrees}
 use Rattle.prv_run.proofs.Tellings.{size-at, fitting}
 use Rattle.prv_run.proofs.record.Recorder.behind.Goals as goal

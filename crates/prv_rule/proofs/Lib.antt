@@ -1,0 +1,16 @@
+pub mod Tools
+pub mod Firm
+pub mod Shown
+pub mod Complete
+pub mod Means
+pub mod Joins
+pub mod Examples
+pub mod Sound
+pub mod Carry
+pub mod Cuts
+pub mod Whole
+pub mod Laws
+pub mod Exact
+pub mod Follow
+pub mod Spans
+pub mod Weights
