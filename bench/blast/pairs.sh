@@ -18,7 +18,7 @@ folder=${1:-$repository/examples}
 inputs=${2:-12}
 most=${3:-4000}
 formulas=${4:-}
-below='prv_model prv_bits prv_cnf prv_lex prv_rule prv_parse prv_names prv_marks prv_run prv_dep prv_pool prv_sym prv_select prv_general prv_gate prv_arith prv_blast'
+below='prv_model prv_bits prv_cnf prv_lex prv_rule prv_parse prv_names prv_marks prv_run prv_dep prv_pool prv_region prv_sym prv_select prv_general prv_gate prv_arith prv_blast'
 work=$(mktemp -d)
 trap 'rm -rf "$work"' EXIT
 

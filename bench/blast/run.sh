@@ -13,7 +13,7 @@ set -eu
 here=$(cd "$(dirname "$0")" && pwd)
 repository=$(cd "$here/../.." && pwd)
 rounds=${1:-3}
-below='prv_model prv_bits prv_cnf prv_gate prv_arith prv_pool prv_blast'
+below='prv_model prv_bits prv_cnf prv_gate prv_arith prv_pool prv_region prv_blast'
 work=$(mktemp -d)
 trap 'rm -rf "$work"' EXIT
 
@@ -33,7 +33,7 @@ if [ -z "${PROGRAM:-}" ]; then
     find "$program_folder/proofs" -name '*.antt.txt' | while read -r file; do mv "$file" "${file%.txt}"; done
     {
         for crate in $below; do grep "^$crate:" "$repository/crates.txt"; done
-        echo 'blast_bench: prv_blast prv_pool prv_cnf prv_model'
+        echo 'blast_bench: prv_blast prv_region prv_pool prv_cnf prv_model'
     } > "$work/copy/crates.txt"
     git -C "$work/copy" init -q
     (cd "$program_folder" && echo 'eq 1 1' | rt run) > "$work/build.txt" 2>&1 || {

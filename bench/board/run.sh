@@ -14,7 +14,7 @@ repository=${1:-$(cd "$here/../.." && pwd)}
 work=$(mktemp -d)
 trap 'rm -rf "$work"' EXIT
 
-crates='prv_model prv_pool prv_run prv_dep prv_sym prv_select prv_general prv_part prv_board'
+crates='prv_model prv_pool prv_region prv_run prv_dep prv_sym prv_select prv_general prv_part prv_board'
 mkdir -p "$work/copy/crates/find_bench/src"
 for crate in $crates; do
     mkdir -p "$work/copy/crates/$crate"
@@ -25,7 +25,7 @@ done
 cp "$here/find_main.rt.txt" "$work/copy/crates/find_bench/src/main.rt"
 {
     for crate in $crates; do grep -E "^$crate:" "$repository/crates.txt"; done
-    echo 'find_bench: prv_board prv_part prv_pool prv_model anyhow sqlite_items'
+    echo 'find_bench: prv_board prv_part prv_region prv_pool prv_model anyhow sqlite_items'
 } > "$work/copy/crates.txt"
 git -C "$work/copy" init -q
 (cd "$work/copy/crates/find_bench" && rt try) > "$work/out.txt" 2>&1 || true

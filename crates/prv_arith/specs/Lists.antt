@@ -54,9 +54,6 @@ carried_values v p = (bit_value v p.0, values v p.1)
 abbrev pub AreLists : ℕ → List Bit × List Bit → Type 0
 AreLists n p = AllBits n p.0 × AllBits n p.1
 
-abbrev pub list_values : (ℕ → Bool) → List Bit × List Bit → List Bool × List Bool
-list_values v p = (values v p.0, values v p.1)
-
 -- What a circuit over two lists wants: they are of the variables, and there is room for so many more.
 pub record IsReady (cost : ℕ) (s : Circuit) (xs ys : List Bit) : Type 0 where
   pub circuit : IsCircuit s

@@ -17,7 +17,8 @@ use crate::error::BlastError;
 use crate::order::{Order, order_of};
 use prv_cnf::Cnf;
 use prv_model::Input;
-use prv_pool::{Cond, Pool};
+use prv_pool::Pool;
+use prv_region::Cond;
 use std::alloc::{AllocError, Global};
 
 /// The greatest cost of a condition that has a formula.

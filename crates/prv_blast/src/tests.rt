@@ -5,7 +5,8 @@ ghost use Rattle.prv_model.specs.Terms.{IsTerm};
 
 use crate::{BlastError, Blasted, blast};
 use prv_model::TermOp;
-use prv_pool::{Cond, Pool, PoolError};
+use prv_pool::{Pool, PoolError};
+use prv_region::Cond;
 use std::alloc::{AllocError, Global};
 use std::sync::Arc;
 use std::test::Fail;

@@ -12,7 +12,7 @@ use crate::totals::Totals;
 use crate::tree::{Origin, Retired, entry_at};
 use prv_model::{Kind, Pair};
 use prv_part::{Caps, Part, Settlement};
-use prv_pool::Region;
+use prv_region::Region;
 use sqlite_items::Items;
 use std::alloc::{AllocError, Global};
 use std::marker::Model;

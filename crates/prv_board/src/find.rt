@@ -9,7 +9,7 @@ ghost use Rattle.prv_board.specs.Paths.{Holds, HoldsAlone, IsStep};
 use crate::board::Board;
 use crate::tree::retired_by;
 use prv_model::Input;
-use prv_pool::{MAX_REGION_NODES, Scratch};
+use prv_region::{MAX_REGION_NODES, Scratch};
 use std::alloc::AllocError;
 
 impl Board {

@@ -5,7 +5,7 @@ ghost use Rattle.prv_board.specs.Paths.{IsPath};
 
 use crate::board::Board;
 use prv_model::Input;
-use prv_pool::{MAX_REGION_NODES, Scratch};
+use prv_region::{MAX_REGION_NODES, Scratch};
 use std::alloc::AllocError;
 
 impl Board {

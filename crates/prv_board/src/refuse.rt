@@ -10,7 +10,7 @@ use crate::error::{ApplyError, StrangerWhy};
 use crate::totals::{Totals, literals};
 use prv_model::{Kind, Reason};
 use prv_part::{Part, Settlement};
-use prv_pool::same_region;
+use prv_region::same_region;
 
 /// Whether a kind says that nothing was decided within this budget of lines, or within a smaller one.
 fn is_left_within(kind: &Kind, budget: u32) -> bool

@@ -4,7 +4,7 @@ use Rattle.std.proofs.Common.{◌≡◌, ℕ, suc, zero, ◌+◌, ◌-◌, ◌*�
 use Rattle.std.specs.Prelude.{nat_eq, nat_lt, nat_le}
 use Rattle.std.specs.List.{list_any, list_all}
 use Rattle.std.proofs.Math.Nat.{pow-suc}
-use Rattle.std.proofs.lemmas.Bool.{or_cases, or_left, or_right, and_parts, and_from, cases_lt, ltb-true, lt-ltb, leb-true, eqb-true, true≢false}
+use Rattle.std.proofs.lemmas.Bool.{or_cases, or_left, or_right, and_parts, and_from, cases_lt, ltb-true, lt-ltb, leb-true, eqb-true, true≢false, not-true}
 use Rattle.std.proofs.lemmas.List.{length-map}
 use Rattle.prv_cnf.specs.declared.literal.Lit.{Lit}
 use Rattle.prv_cnf.specs.Literals.{variable, negate, same_literal, has_literal}
@@ -12,7 +12,7 @@ use Rattle.prv_cnf.proofs.Values.{same_literal-eq, same_literal_refl, same_numbe
 use Rattle.prv_check.specs.Lines.{is_within, no_repeat, is_tautology}
 use Rattle.prv_check.specs.Freshness.{contains_clause}
 use Rattle.prv_check.specs.Spending.{are_distinct}
-use Rattle.prv_check.proofs.Counting.{distinct_short, not_false, not_from}
+use Rattle.prv_check.proofs.Counting.{distinct_short, not_from}
 
 -- the literal of a variable
 abbrev positive : ℕ → Lit
@@ -170,7 +170,7 @@ variables_distinct n c all plain (l ∷ ls) some within once =
     let alone : list_any (nat_eq (variable l - 1)) (variables ls) ≡ true → ⊥ = λ here.
     let (m, stands, e) = some_literal n l ls (ltb-true 0 (variable l) low.0) parts.1 here in
     elim (one_variable l m e) [
-      | inl same ↦ true≢false (sym (ap (λ (x : Lit). has_literal ls x) (sym same) ∙ stands) ∙ not_false (has_literal ls l) apart.0)
+      | inl same ↦ true≢false (sym (ap (λ (x : Lit). has_literal ls x) (sym same) ∙ stands) ∙ not-true (has_literal ls l) apart.0)
       | inr other ↦
           let there : has_literal c (negate l) ≡ true = ap (λ (x : Lit). has_literal c x) (sym other) ∙ some m (or_right (same_literal m l) (has_literal ls m) stands) in
           true≢false (sym there ∙ any_false (λ x. has_literal c (negate x)) c l plain in_c)

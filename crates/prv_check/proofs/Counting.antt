@@ -1,19 +1,15 @@
 -- Numbers that are pairwise different and below a bound: how many there can be.
-use Rattle.std.proofs.Common.{◌≡◌, ℕ, suc, zero, ◌<◌, ◌≤◌, Bool, true, false, not, ◌&&◌, ◌||◌, List, [], ◌∷◌, ◌++◌, length, take, get_or, refl, sym, ◌∙◌, inl, inr, arith}
+use Rattle.std.proofs.Common.{◌≡◌, ℕ, suc, zero, ◌<◌, ◌≤◌, Bool, true, false, not, ◌||◌, List, [], ◌∷◌, ◌++◌, length, take, get_or, refl, sym, ◌∙◌, inl, inr, arith}
 use Rattle.std.specs.Prelude.{nat_eq, nat_lt, if◌then◌else◌}
 use Rattle.std.specs.List.{list_any, list_all}
-use Rattle.std.proofs.lemmas.Bool.{or_cases, or_left, or_right, and_parts, and_from, cases_eq, ltb-true, lt-ltb, eqb-true, eq-eqb, true≢false, false_from_ne_true}
+use Rattle.std.proofs.lemmas.Bool.{or_cases, or_left, or_right, and_parts, and_from, cases_eq, ltb-true, lt-ltb, eqb-true, eq-eqb, true≢false, false_from_ne_true, not-true, not_from_false}
+use Rattle.std.proofs.Math.Bool.{and-false}
 use Rattle.std.proofs.lemmas.List.{get_or_default}
 use Rattle.std.proofs.lemmas.List.Folds.{Any-from_list_any, list_any_at, list_any-append}
 use Rattle.prv_check.specs.Spending.{are_distinct}
 
-pub not_false : (b : Bool) → not b ≡ true → b ≡ false
-not_false false h = refl
-not_false true h = absurd cc
-
 pub not_from : (b : Bool) → (b ≡ true → ⊥) → not b ≡ true
-not_from false h = refl
-not_from true h = absurd (h refl)
+not_from b h = not_from_false b (false_from_ne_true b h)
 
 -- a list without the first place where a number stands
 without : ℕ → List ℕ → List ℕ
@@ -51,7 +47,7 @@ distinct_without m (x ∷ xs) distinct = by (nat_eq m x) (distinct_without m xs)
     by false rest =
         let parts = and_parts (not (list_any (nat_eq x) xs)) (are_distinct xs) distinct in
         and_from (not (list_any (nat_eq x) (without m xs))) (are_distinct (without m xs))
-        (not_from (list_any (nat_eq x) (without m xs)) (λ here. true≢false (sym (any_without (nat_eq x) m xs here) ∙ not_false (list_any (nat_eq x) xs) parts.0)))
+        (not_from (list_any (nat_eq x) (without m xs)) (λ here. true≢false (sym (any_without (nat_eq x) m xs here) ∙ not-true (list_any (nat_eq x) xs) parts.0)))
         (rest parts.1)
 
 -- numbers up to m that aren't m are below it
@@ -78,7 +74,7 @@ all_without m (x ∷ xs) all distinct = by (nat_eq m x) refl (all_without m xs)
         let e : m ≡ x = eqb-true m x same in
         let parts = and_parts (not (list_any (nat_eq x) xs)) (are_distinct xs) distinct in
         let tail = and_parts (nat_lt x (suc m)) (list_all (λ x. nat_lt x (suc m)) xs) all in
-        below_without m xs tail.1 (rw e (not_false (list_any (nat_eq x) xs) parts.0))
+        below_without m xs tail.1 (rw e (not-true (list_any (nat_eq x) xs) parts.0))
     by false other rest =
         let parts = and_parts (not (list_any (nat_eq x) xs)) (are_distinct xs) distinct in
         let tail = and_parts (nat_lt x (suc m)) (list_all (λ x. nat_lt x (suc m)) xs) all in
@@ -115,7 +111,7 @@ distinct_more (y ∷ ys) x distinct none =
     let rest : list_any (nat_eq x) ys ≡ false = false_from_ne_true (list_any (nat_eq x) ys) (λ here. true≢false (sym (or_right (nat_eq x y) (list_any (nat_eq x) ys) here) ∙ none)) in
     let alone : list_any (nat_eq y) (ys ++ x ∷ []) ≡ true → ⊥ = λ here.
     elim (or_cases (list_any (nat_eq y) ys) (nat_eq y x || false) (sym (list_any-append (nat_eq y) ys (x ∷ [])) ∙ here)) [
-      | inl before ↦ true≢false (sym before ∙ not_false (list_any (nat_eq y) ys) parts.0)
+      | inl before ↦ true≢false (sym before ∙ not-true (list_any (nat_eq y) ys) parts.0)
       | inr last ↦ elim (or_cases (nat_eq y x) false last) [
         | inl same ↦ other (eq-eqb x y (sym (eqb-true y x same)))
         | inr nothing ↦ true≢false (sym nothing)
@@ -133,9 +129,5 @@ repeated_at (x ∷ xs) (suc i) inside here =
       | inl first ↦
           let stands : list_any (nat_eq x) xs ≡ true = list_any_at (nat_eq x) xs i 0 (omega arith) (eq-eqb x (get_or xs i 0) (sym (eqb-true (get_or xs i 0) x first))) in
           rw stands refl
-      | inr later ↦ rw (repeated_at xs i (omega arith) later) (and_nothing (not (list_any (nat_eq x) xs)))
+      | inr later ↦ rw (repeated_at xs i (omega arith) later) (and-false (not (list_any (nat_eq x) xs)))
     ]
-  where
-    and_nothing : (b : Bool) → (b && false) ≡ false
-    and_nothing true = refl
-    and_nothing false = refl

@@ -10,7 +10,8 @@ use Rattle.prv_cnf.specs.declared.literal.Lit.{Lit}
 use Rattle.prv_cnf.specs.Literals.{negate, has_literal}
 use Rattle.prv_check.specs.Propagation.{unit_literal, trail_after}
 use Rattle.prv_check.specs.Lines.{clauses_at}
-use Rattle.prv_check.specs.Inner.Places.{place_of, flag, are_flagged}
+use Rattle.prv_cnf.specs.Places.{place_of}
+use Rattle.prv_check.specs.Inner.Tables.{flag, are_flagged}
 use Rattle.prv_check.specs.Freshness.{stands_in, units_used, have_use}
 
 -- what the clauses make true, in turn

@@ -1,50 +1,20 @@
--- Places of literals, and tables by place.
-use Rattle.std.proofs.Common.{◌≡◌, ℕ, suc, zero, ◌+◌, ◌*◌, ◌<◌, ◌≤◌, Bool, true, false, ◌&&◌, ◌||◌, List, [], ◌∷◌, ℤ, pos, negsuc, neg_ℤ, unsigned_abs, length, map, replicate, refl, sym, ap, subst, ◌∙◌, inl, inr, arith, get_or}
+-- Flags by rounds, and tables by literal.
+use Rattle.std.proofs.Common.{◌≡◌, ℕ, suc, zero, ◌+◌, ◌*◌, ◌<◌, ◌≤◌, Bool, true, false, ◌&&◌, ◌||◌, List, [], ◌∷◌, length, map, replicate, refl, sym, subst, ◌∙◌, inl, inr, arith, get_or}
 use Rattle.std.specs.Prelude.{nat_eq, nat_lt}
 use Rattle.std.specs.List.{All, list_all}
 use Rattle.std.proofs.lemmas.List.Sums.{AllPass-from_list_all}
+use Rattle.std.proofs.Math.Bool.{and-false, or-true}
 use Rattle.std.proofs.lemmas.Bool.{true≢false, cases_lt, ne_eqb, and_parts, leb-true, lt-ltb, and_from}
 use Rattle.std.proofs.lemmas.List.{length-replicate, get_or-replicate}
 use Rattle.std.proofs.lemmas.List.Folds.{Any-from_list_any}
 use Rattle.std.proofs.Math.ListN.{get_or-eq_default}
 use Rattle.prv_cnf.specs.declared.literal.Lit.{Lit}
-use Rattle.prv_cnf.specs.Literals.{variable, negate, same_literal, has_literal}
-use Rattle.prv_cnf.proofs.Values.{same_literal-eq, same_literal_refl, same_number}
+use Rattle.prv_cnf.specs.Literals.{variable, same_literal, has_literal}
+use Rattle.prv_cnf.specs.Places.{place_of}
+use Rattle.prv_cnf.proofs.Values.{same_literal-eq, same_literal_refl}
+use Rattle.prv_cnf.proofs.Placing.{place_of-le}
 use Rattle.prv_check.specs.Lines.{is_within}
-use Rattle.prv_check.specs.Inner.Places.{signed_place, place_of, flag, are_flagged, IsTableOf, AreFlagged}
-
-signed_place-injective : (x y : ℤ) → signed_place x ≡ signed_place y → x ≡ y
-signed_place-injective (pos a) (pos b) e = ap pos (omega arith)
-signed_place-injective (pos a) (negsuc b) e = absurd (omega arith)
-signed_place-injective (negsuc a) (pos b) e = absurd (omega arith)
-signed_place-injective (negsuc a) (negsuc b) e = ap negsuc (omega arith)
-
--- two literals have two places
-pub place_of-injective : (x y : Lit) → place_of x ≡ place_of y → x ≡ y
-place_of-injective x y e = same_number x y (signed_place-injective x.0 y.0 e)
-
-signed_place-le : (z : ℤ) → signed_place z ≤ 2 * unsigned_abs z
-signed_place-le (pos k) = omega arith
-signed_place-le (negsuc k) = omega arith
-
-signed_place-ge : (z : ℤ) → 2 * unsigned_abs z ≤ signed_place z + 1
-signed_place-ge (pos k) = omega arith
-signed_place-ge (negsuc k) = omega arith
-
--- a place tells the variable
-pub place_of-le : (l : Lit) → place_of l ≤ 2 * variable l
-place_of-le l = signed_place-le l.0
-
-pub place_of-ge : (l : Lit) → 2 * variable l ≤ place_of l + 1
-place_of-ge l = signed_place-ge l.0
-
-unsigned_abs-neg : (z : ℤ) → unsigned_abs (neg_ℤ z) ≡ unsigned_abs z
-unsigned_abs-neg (pos zero) = refl
-unsigned_abs-neg (pos (suc k)) = refl
-unsigned_abs-neg (negsuc k) = refl
-
-pub variable-negate : (l : Lit) → variable (negate l) ≡ variable l
-variable-negate l = unsigned_abs-neg l.0
+use Rattle.prv_check.specs.Inner.Tables.{flag, are_flagged, IsTableOf, AreFlagged}
 
 -- ---- flags by rounds
 
@@ -71,15 +41,7 @@ nothing_set n k =
 pub nothing_flagged : (n : ℕ) (l : Lit) → flag (replicate n false) l ≡ false
 nothing_flagged n l = nothing_set n (place_of l)
 
-or_true : (b : Bool) → (b || true) ≡ true
-or_true true = refl
-or_true false = refl
-
 -- ---- tables of the literals of a list
-
-and_nothing : (b : Bool) → (b && false) ≡ false
-and_nothing true = refl
-and_nothing false = refl
 
 -- literals of the first n variables have places in a table for them
 pub within_places : (n size : ℕ) (ls : List Lit) → list_all (is_within n) ls ≡ true → size ≡ 2 * n + 1 → All (λ l. place_of l < size) ls
@@ -101,7 +63,7 @@ is_table size ls table places flagged l = by (has_literal ls l) refl
     by : (b : Bool) → has_literal ls l ≡ b → flag table l ≡ has_literal ls l
     by true here =
         flagged l ∙ (rw (lt-ltb (place_of l) size (has_place size ls l places here)) refl)
-    by false gone = flagged l ∙ (rw gone (and_nothing (nat_lt (place_of l) size)))
+    by false gone = flagged l ∙ (rw gone (and-false (nat_lt (place_of l) size)))
 
 -- literals that have places are set where all that have places are
 pub all_have_places : (ls : List Lit) (table : List Bool) → All (λ l. place_of l < length table) ls → AreFlagged table ls → are_flagged table ls ≡ true
@@ -113,7 +75,7 @@ all_have_places ls table places flagged = go ls (λ l h. h)
         let here : has_literal ls x ≡ true = some x (rw (same_literal_refl x) refl) in
         and_from (flag table x) (are_flagged table xs)
         (flagged x here (has_place (length table) ls x places here))
-        (go xs (λ l h. some l (rw h (or_true (same_literal l x)))))
+        (go xs (λ l h. some l (rw h (or-true (same_literal l x)))))
 
 -- what is flagged has a place
 flag_has_place : (table : List Bool) (l : Lit) → flag table l ≡ true → place_of l < length table
@@ -134,4 +96,4 @@ flagged_kept old new ls added size flagged before l here inside = flagged l ∙ 
 pub flagged_added : (old new : List Bool) (added : List Lit) → length new ≡ length old → ((l : Lit) → flag new l ≡ (flag old l || (nat_lt (place_of l) (length old) && has_literal added l))) → AreFlagged new added
 flagged_added old new added size flagged l here inside =
     let low : nat_lt (place_of l) (length old) ≡ true = lt-ltb (place_of l) (length old) (rw (← size) inside) in
-    flagged l ∙ (rw (low, here) (or_true (flag old l)))
+    flagged l ∙ (rw (low, here) (or-true (flag old l)))

@@ -3,7 +3,7 @@ use Rattle.std.proofs.Common.{◌≡◌, ℕ, suc, zero, ◌+◌, ◌*◌, ◌^�
 use Rattle.std.specs.Prelude.{nat_lt, slice_get, IfSome}
 use Rattle.std.specs.List.{list_any, list_all}
 use Rattle.std.proofs.Math.Nat.{mul-le-mul_right}
-use Rattle.std.proofs.lemmas.Bool.{and_parts, or_right, true≢false, lt-ltb}
+use Rattle.std.proofs.lemmas.Bool.{and_parts, or_right, true≢false, lt-ltb, not-true}
 use Rattle.std.proofs.lemmas.List.{get_or-take, get_or-map, length-map, length-append, length-take-le, get_or_default}
 use Rattle.std.proofs.lemmas.List.Folds.{list_any_at, list_any-append}
 use Rattle.std.proofs.lemmas.Option.{slice_get_read}
@@ -14,7 +14,7 @@ use Rattle.prv_check.specs.LogLines.{LogLine, line_numbers}
 use Rattle.prv_check.specs.Lines.{known, is_within, no_repeat, is_tautology, is_empty, clause_fault, line_fault}
 use Rattle.prv_check.specs.Freshness.{contains_clause}
 use Rattle.prv_check.specs.Spending.{are_distinct, IsLearnt, AreLearnt, log_numbers, IsSpent}
-use Rattle.prv_check.proofs.Counting.{distinct_short, distinct_from_pairs, not_false}
+use Rattle.prv_check.proofs.Counting.{distinct_short, distinct_from_pairs}
 use Rattle.prv_check.proofs.Coding.{code, code_none, code_small, same_code, few_literals}
 use Rattle.prv_check.proofs.Passing.{passes, unless_none, or_none}
 
@@ -30,7 +30,7 @@ follows_plain f earlier s none =
     let a = unless_none (list_all (is_within f.vars) s.clause) BadLiteral _ clause.0 in
     let b = unless_none (no_repeat s.clause) Repeat _ a.1 in
     let c = unless_none (not (is_tautology s.clause)) Tautology _ b.1 in
-    record { within = a.0; once = b.0; plain = not_false (is_tautology s.clause) c.0 }
+    record { within = a.0; once = b.0; plain = not-true (is_tautology s.clause) c.0 }
 
 -- the line of a log at a place
 learnt_at : (f : Formula) (log : List LogLine) → AreLearnt f log → (j : ℕ) (d : LogLine) → j < length log → IsLearnt f (take j log) (get_or log j d)
@@ -65,7 +65,7 @@ not_empty : (f : Formula) (earlier : List LogLine) (s : LogLine) → IsLearnt f 
 not_empty f earlier s learnt e =
     let plain = follows_plain f earlier s learnt.follows in
     let new = and_parts (not (is_empty s.clause)) _ learnt.fresh.0 in
-    no_literal s.clause (same_code f.vars s.clause [] plain.within plain.plain (e ∙ sym (code_none f.vars))) (not_false (is_empty s.clause) new.0)
+    no_literal s.clause (same_code f.vars s.clause [] plain.within plain.plain (e ∙ sym (code_none f.vars))) (not-true (is_empty s.clause) new.0)
   where
     no_literal : (c : List Lit) → contains_clause [] c ≡ true → is_empty c ≡ false → ⊥
     no_literal [] contained filled = cc
@@ -90,7 +90,7 @@ not_again f log learnt d i j less inside e =
     let found : list_any (contains_clause b.clause) (known f (take j log)) ≡ true =
     list_any-append (contains_clause b.clause) f.clauses clauses
     ∙ or_right (list_any (contains_clause b.clause) f.clauses) (list_any (contains_clause b.clause) clauses) (list_any_at (contains_clause b.clause) clauses i [] room there) in
-    true≢false (sym found ∙ not_false (list_any (contains_clause b.clause) (known f (take j log))) new.1)
+    true≢false (sym found ∙ not-true (list_any (contains_clause b.clause) (known f (take j log))) new.1)
 
 code_at : (n : ℕ) (log : List LogLine) (i : ℕ) (d : LogLine) → i < length log → get_or (map (λ s. code n s.clause) log) i 0 ≡ code n (get_or log i d).clause
 code_at n log i d inside = get_or-map (λ (s : LogLine). code n s.clause) log i d 0 inside

@@ -12,7 +12,8 @@ use Rattle.prv_cnf.specs.Literals.{same_literal, has_literal}
 use Rattle.prv_cnf.proofs.Values.{same_literal-eq, all-has_literal}
 use Rattle.prv_check.specs.declared.index.Entry.{Entry}
 use Rattle.prv_check.specs.Lines.{is_empty}
-use Rattle.prv_check.specs.Inner.Places.{place_of, flag, are_flagged, IsTableOf}
+use Rattle.prv_cnf.specs.Places.{place_of}
+use Rattle.prv_check.specs.Inner.Tables.{flag, are_flagged, IsTableOf}
 use Rattle.prv_check.specs.Inner.Signatures.{signature}
 use Rattle.prv_check.specs.Freshness.{contains_clause}
 use Rattle.prv_check.specs.Inner.Indexing.{Listing, IsIndex, IsFound, IsListed, listed_under, is_entry}

@@ -1,10 +1,10 @@
 //! The literals that are true while a line is tested: a trail in the order in which they were made
 //! true, and beside it a table of the literals that they make false, so that each test of a literal is
 //! one look into the table.
-ghost use Rattle.std.specs.Prelude.{◌≡◌, ◌<◌, ◌≤◌, ◌++◌, ◌∷◌, ◌+◌, ◌*◌, [], length, map, nat_eq, IfOk, IfNone, IfSome};
+ghost use Rattle.std.specs.Prelude.{◌≡◌, ◌<◌, ◌≤◌, ◌++◌, ◌∷◌, [], length, map, nat_eq, IfOk};
 ghost use Rattle.prv_cnf.specs.Literals.{variable, negate, same_literal, has_literal};
 ghost use Rattle.prv_check.specs.Propagation.{is_false};
-ghost use Rattle.prv_check.specs.Inner.Assigned.{AreFalse, center_of};
+ghost use Rattle.prv_check.specs.Inner.Assigned.{AreFalse};
 
 use crate::flags::Flags;
 use prv_cnf::{Lit, MAX_VARS};
@@ -18,14 +18,14 @@ pub struct Assignment {
     vars: u32,
     /// How many literals the trail has room for.
     room: usize,
-    /// The literals that the trail makes false, in a table with 0 in its middle.
+    /// The literals that the trail makes false, in a table by literal.
     falses: Flags,
     /// The true literals, in order.
     trail: Vec<Lit>,
 }
 
 impl Model for Assignment {
-    ghost use Rattle.std.specs.Prelude.{◌≤◌};
+    ghost use Rattle.std.specs.Prelude.{◌≡◌, ◌+◌, ◌*◌, ◌≤◌, length};
     ghost use Rattle.std.specs.Vec.{vec_capacity};
     ghost use Rattle.prv_cnf.specs.declared.formula.TheConstants.{MAX_VARS};
     ghost use Rattle.prv_check.specs.Inner.Assigned.{Assigned, AreFalse};
@@ -34,7 +34,7 @@ impl Model for Assignment {
 
     ghost view = { λ m. record { vars = m.vars; room = m.room; trail = m.trail.items } };
 
-    ghost invariant = { λ m. AreFalse m.vars m.falses m.trail.items × (m.vars ≤ MAX_VARS) × (m.room ≤ vec_capacity m.trail) };
+    ghost invariant = { λ m. AreFalse m.falses m.trail.items × (length m.falses ≡ 2 * m.vars + 1) × (m.vars ≤ MAX_VARS) × (m.room ≤ vec_capacity m.trail) };
 }
 
 impl Assignment {
@@ -55,13 +55,6 @@ impl Assignment {
         })
     }
 
-    /// How many variables the table has places for.
-    pub fn vars(&self) -> u32
-        ensures { result ≡ self.now.vars }
-    {
-        self.vars
-    }
-
     /// The literals, in the order in which they were added.
     pub fn trail(&self) -> &[Lit]
         ensures { result.now ≡ self.now.trail }
@@ -72,7 +65,7 @@ impl Assignment {
     /// The table of the false literals: the rounds in which they were made false, and the round that
     /// counts.
     pub fn falses(&self) -> (&[u32], u32)
-        ensures { AreFalse self.now.vars (map (nat_eq result.1) result.0.now) self.now.trail }
+        ensures { AreFalse (map (nat_eq result.1) result.0.now) self.now.trail }
     {
         self.falses.rounds()
     }
@@ -82,7 +75,7 @@ impl Assignment {
         requires { variable lit ≤ self.now.vars }
         ensures { result ≡ has_literal self.now.trail lit }
     {
-        self.falses.has(mirrored(self.vars, lit))
+        self.falses.has(lit.negated_place())
     }
 
     /// Whether the trail has the negation of the literal, which is of one of the variables.
@@ -90,7 +83,7 @@ impl Assignment {
         requires { variable lit ≤ self.now.vars }
         ensures { result ≡ is_false self.now.trail lit }
     {
-        self.falses.has(centered(self.vars, lit))
+        self.falses.has(lit.place())
     }
 
     /// Adds the literal to the trail, which has room for it.
@@ -99,8 +92,9 @@ impl Assignment {
         ensures { self.new ≡ record self.old { trail = self.old.trail ++ lit ∷ [] } }
     {
         self.trail.push(lit).unwrap();
-        if lit.variable() <= self.vars {
-            self.falses.set(mirrored(self.vars, lit));
+        let at = lit.negated_place();
+        if at < self.falses.len() {
+            self.falses.set(at);
         }
     }
 
@@ -126,44 +120,16 @@ impl Assignment {
 
 /// Whether the trail makes the literal false: by the table of the rounds in which literals were made
 /// false, or by a look through the trail where the table has no place for it.
-pub fn is_false(vars: u32, rounds: &[u32], round: u32, trail: &[Lit], lit: Lit) -> bool
-    requires { AreFalse vars (map (nat_eq round) rounds.now) trail.now }
+pub fn is_false(rounds: &[u32], round: u32, trail: &[Lit], lit: Lit) -> bool
+    requires { AreFalse (map (nat_eq round) rounds.now) trail.now }
     ensures { result ≡ is_false trail.now lit }
 {
-    match center(vars, lit) {
-        Some(at) => rounds[at] == round,
-        None => has_negation(trail, lit),
-    }
-}
-
-/// The literal's place in a table that has 0 in its middle, if it has one.
-fn center(vars: u32, lit: Lit) -> Option<usize>
-    ensures none { IfNone result (vars < variable lit) }
-    ensures some { IfSome result (λ at. (at ≡ center_of vars lit) × (variable lit ≤ vars) × (at < 2 * vars + 1)) }
-{
-    let at = lit.0 as i64 + vars as i64;
-    if at < 0 || at > 2 * vars as i64 {
-        None
+    let at = lit.place();
+    if at < rounds.len() {
+        rounds[at] == round
     } else {
-        Some(at as usize)
+        has_negation(trail, lit)
     }
-}
-
-/// The place of a literal of one of the variables.
-fn centered(vars: u32, lit: Lit) -> usize
-    requires { variable lit ≤ vars }
-    ensures { result ≡ center_of vars lit }
-{
-    (vars as i64 + lit.0 as i64) as usize
-}
-
-/// The place of the negation of a literal of one of the variables.
-fn mirrored(vars: u32, lit: Lit) -> usize
-    requires { variable lit ≤ vars }
-    ensures value { result ≡ center_of vars (negate lit) }
-    ensures bound { result < 2 * vars + 1 }
-{
-    (vars as i64 - lit.0 as i64) as usize
 }
 
 /// Whether the literal's negation is among the literals.

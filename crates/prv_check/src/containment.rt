@@ -3,7 +3,7 @@ ghost use Rattle.std.specs.Prelude.{◌≡◌, [], length, slice_index_or, IsTru
 ghost use Rattle.std.specs.List.{list_all, list_any};
 ghost use Rattle.prv_cnf.specs.declared.literal.Lit.{Lit};
 ghost use Rattle.prv_check.specs.Lines.{known};
-ghost use Rattle.prv_check.specs.Inner.Places.{are_flagged, IsTableOf};
+ghost use Rattle.prv_check.specs.Inner.Tables.{are_flagged, IsTableOf};
 ghost use Rattle.prv_check.specs.Inner.Signatures.{signature};
 ghost use Rattle.prv_check.specs.Inner.Indexing.{IsIndex, is_entry};
 ghost use Rattle.prv_check.specs.Freshness.{contains_clause};
@@ -12,8 +12,8 @@ use crate::flags::Flags;
 use crate::index::{Entry, Index};
 use crate::known::{clause_at, known_count};
 use crate::log::Line;
-use crate::place::all_flagged;
 use crate::signature::signature;
+use crate::tables::all_flagged;
 use prv_cnf::{Cnf, Lit};
 use std::alloc::{AllocError, Global};
 

@@ -3,7 +3,8 @@ ghost use Rattle.std.specs.Prelude.{◌≡◌, ◌+◌, ◌*◌, ◌^◌, ◌<�
 ghost use Rattle.std.specs.List.{All, list_all};
 ghost use Rattle.prv_check.specs.Lines.{known, is_within, line_fault as fault_of};
 ghost use Rattle.prv_check.specs.Logs.{IsFaultless, IsFirstFault, IsCause};
-ghost use Rattle.prv_check.specs.Inner.Places.{place_of, AreFlagged, IsTableOf};
+ghost use Rattle.prv_cnf.specs.Places.{place_of};
+ghost use Rattle.prv_check.specs.Inner.Tables.{AreFlagged, IsTableOf};
 ghost use Rattle.prv_check.specs.Inner.Indexing.{IsIndex};
 ghost use Rattle.prv_check.specs.Freshness.{is_new, fresh_fault, AreFresh};
 
@@ -17,7 +18,7 @@ use crate::known::known_count;
 use crate::lean::is_lean;
 use crate::line::line_fault;
 use crate::log::{Line, Log};
-use crate::place::flag_all;
+use crate::tables::flag_all;
 use prv_cnf::{Cnf, Lit};
 use std::alloc::{AllocError, Global};
 

@@ -8,11 +8,11 @@
 ghost use Rattle.std.specs.Prelude.{◌≡◌, ◌<◌, [], length, false, replicate, slice_index_or, IfOk, OnOk, IfNone, IfSome, true};
 ghost use Rattle.std.specs.List.{All};
 ghost use Rattle.prv_cnf.specs.Literals.{has_literal};
-ghost use Rattle.prv_check.specs.Inner.Places.{place_of};
+ghost use Rattle.prv_cnf.specs.Places.{place_of};
 
 use crate::flags::Flags;
-use crate::place::{all_flagged, place};
 use crate::signature::signature;
+use crate::tables::all_flagged;
 use prv_cnf::Lit;
 use sqlite_items::Items;
 use std::alloc::{AllocError, Global};
@@ -80,7 +80,7 @@ impl Index {
         requires { place_of lit < length self.now.lists }
         ensures { result.now ≡ slice_index_or self.now.lists (place_of lit) [] }
     {
-        self.lists[place(lit)].as_slice()
+        self.lists[lit.place()].as_slice()
     }
 
     /// Adds a clause with its number, unless one of its literals doesn't occur.
@@ -97,7 +97,7 @@ impl Index {
                     signature: signature(lits),
                     number,
                 };
-                self.lists[place(lit)].push(entry)?;
+                self.lists[lit.place()].push(entry)?;
             }
         }
         Ok(())
@@ -113,7 +113,7 @@ fn rarest(lists: &[Items<Entry>], lits: &[Lit]) -> Option<Lit>
     let mut best = None;
     let mut shortest = usize::MAX;
     for lit in lits {
-        let length = lists[place(*lit)].len();
+        let length = lists[lit.place()].len();
         if best.is_none() || length < shortest {
             best = Some(*lit);
             shortest = length;

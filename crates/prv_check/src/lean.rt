@@ -5,15 +5,16 @@ ghost use Rattle.std.specs.Option.{option_map_or};
 ghost use Rattle.prv_cnf.specs.Literals.{negate};
 ghost use Rattle.prv_check.specs.Propagation.{hints_fault, trail_after};
 ghost use Rattle.prv_check.specs.Lines.{known, clauses_at, is_within};
-ghost use Rattle.prv_check.specs.Inner.Places.{place_of, flag};
+ghost use Rattle.prv_cnf.specs.Places.{place_of};
+ghost use Rattle.prv_check.specs.Inner.Tables.{flag};
 ghost use Rattle.prv_check.specs.Freshness.{stands_in, have_use, is_lean};
 
 use crate::assignment::{Assignment, has_negation};
 use crate::flags::Flags;
 use crate::known::clause_at;
 use crate::log::Line;
-use crate::place::{all_flagged, flag_all, place};
 use crate::slices::after;
+use crate::tables::{all_flagged, flag_all};
 use prv_cnf::{Cnf, Lit};
 use sqlite_items::at as at_place;
 
@@ -74,7 +75,7 @@ fn has_use(cnf: &Cnf, earlier: &[Line], later: &[u32], unit: Option<Lit>, seen: 
         None => true,
         Some(unit) => {
             if unit.variable() <= cnf.vars() {
-                seen.has(place(unit.negated()))
+                seen.has(unit.negated_place())
             } else {
                 negation_stands_in(cnf, earlier, later, unit)
             }

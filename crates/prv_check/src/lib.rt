@@ -16,12 +16,12 @@ mod law;
 mod lean;
 mod line;
 mod log;
-mod place;
 mod propagate;
 mod refutation;
 mod signature;
 mod slices;
 mod spent;
+mod tables;
 #[cfg(test)]
 mod tests;
 mod work;

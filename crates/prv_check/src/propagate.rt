@@ -14,13 +14,13 @@ use prv_cnf::{Cnf, Lit};
 
 /// The one literal of a clause that isn't false, if there is one.
 #[inline(never)]
-fn unit_of(vars: u32, rounds: &[u32], round: u32, trail: &[Lit], lits: &[Lit]) -> Option<Lit>
-    requires { AreFalse vars (map (nat_eq round) rounds.now) trail.now }
+fn unit_of(rounds: &[u32], round: u32, trail: &[Lit], lits: &[Lit]) -> Option<Lit>
+    requires { AreFalse (map (nat_eq round) rounds.now) trail.now }
     ensures { result ≡ unit_literal trail.now lits.now }
 {
     let mut found = None;
     for lit in lits {
-        if !is_false(vars, rounds, round, trail, *lit) {
+        if !is_false(rounds, round, trail, *lit) {
             if is_other(found, *lit) {
                 return None;
             }
@@ -41,12 +41,12 @@ fn is_other(found: Option<Lit>, lit: Lit) -> bool
 }
 
 /// Whether each literal of a clause is false.
-fn all_false(vars: u32, rounds: &[u32], round: u32, trail: &[Lit], lits: &[Lit]) -> bool
-    requires { AreFalse vars (map (nat_eq round) rounds.now) trail.now }
+fn all_false(rounds: &[u32], round: u32, trail: &[Lit], lits: &[Lit]) -> bool
+    requires { AreFalse (map (nat_eq round) rounds.now) trail.now }
     ensures { result ≡ list_all (is_false trail.now) lits.now }
 {
     for lit in lits {
-        if !is_false(vars, rounds, round, trail, *lit) {
+        if !is_false(rounds, round, trail, *lit) {
             return false;
         }
     }
@@ -65,21 +65,20 @@ pub fn propagate(
     ensures fault { result ≡ hints_fault assignment.old.trail (clauses_at (known cnf.now earlier.now) hints.now) }
     ensures trail { assignment.new ≡ record assignment.old { trail = trail_after assignment.old.trail (clauses_at (known cnf.now earlier.now) hints.now) } }
 {
-    let vars = assignment.vars();
     let Some((last, others)) = hints.split_last() else {
         return Some(LineWhy::NoHints);
     };
     for hint in others {
         let clause = clause_at(cnf, earlier, *hint as usize);
         let (rounds, round) = assignment.falses();
-        match unit_of(vars, rounds, round, assignment.trail(), clause) {
+        match unit_of(rounds, round, assignment.trail(), clause) {
             None => return Some(LineWhy::NotUnit),
             Some(lit) => assignment.add(lit),
         }
     }
     let clause = clause_at(cnf, earlier, *last as usize);
     let (rounds, round) = assignment.falses();
-    if all_false(vars, rounds, round, assignment.trail(), clause) {
+    if all_false(rounds, round, assignment.trail(), clause) {
         None
     } else {
         Some(LineWhy::NotFalse)

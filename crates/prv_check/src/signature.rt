@@ -3,7 +3,6 @@
 ghost use Rattle.std.specs.Prelude.{◌≡◌};
 ghost use Rattle.prv_check.specs.Inner.Signatures.{literal_bit, signature};
 
-use crate::place::place;
 use prv_cnf::Lit;
 
 /// The bits of the clause's literals.
@@ -21,6 +20,6 @@ pub fn signature(lits: &[Lit]) -> u64
 fn literal_bit(lit: Lit) -> u64
     ensures { result ≡ literal_bit lit }
 {
-    let hash = (place(lit) as u32).wrapping_mul(0x9E37_79B1);
+    let hash = (lit.place() as u32).wrapping_mul(0x9E37_79B1);
     1 << (hash >> 26)
 }

@@ -18,7 +18,7 @@ use crate::fresh::{fresh_fault, index_line, occurring};
 use crate::index::Index;
 use crate::known::known_count;
 use crate::log::{Line, Log};
-use crate::place::flag_all;
+use crate::tables::flag_all;
 use prv_cnf::Cnf;
 use std::alloc::{AllocError, Global};
 

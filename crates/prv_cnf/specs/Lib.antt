@@ -1,3 +1,4 @@
 pub mod Literals
 pub mod Formulas
 pub mod Models
+pub mod Places

@@ -1,6 +1,7 @@
 //! Literals, as in the DIMACS format: a number for a variable, and its negative for the negation.
-ghost use Rattle.std.specs.Prelude.{◌≡◌, ◌<◌, ◌≤◌, ◌^◌};
+ghost use Rattle.std.specs.Prelude.{◌≡◌, ◌+◌, ◌*◌, ◌<◌, ◌≤◌, ◌^◌};
 ghost use Rattle.prv_cnf.specs.Literals.{negate, variable, is_literal_true};
+ghost use Rattle.prv_cnf.specs.Places.{place_of};
 ghost use Rattle.prv_cnf.specs.Models.{values_of};
 
 /// A literal: the number of a variable, from 1, or its negative for the negated variable.
@@ -24,6 +25,27 @@ impl Lit {
         ensures { result ≡ negate self }
     {
         Lit(-self.0)
+    }
+
+    /// The literal's place in a table by literal, in which 0, -1, 1, -2, 2 and so on stand in this order:
+    /// the literals of the first n variables are below 2n + 1.
+    #[inline(always)]
+    pub fn place(self) -> usize
+        ensures value { result ≡ place_of self }
+        ensures bound { result < 2 ^ 32 }
+        ensures by_variable { result ≤ 2 * variable self }
+        ensures variable { 2 * variable self ≤ result + 1 }
+    {
+        2 * self.variable() as usize - usize::from(self.0 < 0)
+    }
+
+    /// The place of the literal's negation in a table by literal.
+    #[inline(always)]
+    pub fn negated_place(self) -> usize
+        ensures value { result ≡ place_of (negate self) }
+        ensures by_variable { result ≤ 2 * variable self }
+    {
+        2 * self.variable() as usize - usize::from(self.0 > 0)
     }
 
     /// Whether the literal is true where variable k has the value `values[k - 1]`. A variable past

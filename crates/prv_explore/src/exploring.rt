@@ -13,7 +13,8 @@ use crate::progress::Progress;
 use crate::turn::{Turn, settle_least};
 use prv_board::{Board, Ended};
 use prv_model::Pair;
-use prv_pool::{Cond, Pool, Region};
+use prv_pool::Pool;
+use prv_region::{Cond, Region};
 use std::alloc::{AllocError, Global};
 use std::sync::Arc;
 

@@ -1,11 +1,14 @@
-//! Explorations of a small pair: to the end, for one settlement, and on a board that is too small.
+//! Explorations of a small pair: to the end, for one settlement, and on a board that is too small; and that the
+//! conditions of regions and the logs of proofs cross threads.
 use crate::explore;
 use crate::exploring::{all_inputs, settle_all};
 use crate::plan::{BOARD_CAPS, Plan};
 use crate::progress::{Progress, Quiet};
 use prv_board::{Board, Ended};
+use prv_check::Log;
 use prv_model::{BinOp, Expr, Name, Pair, Program, Stmt, UnOp};
 use prv_part::Caps;
+use prv_region::Region;
 use sqlite_items::{Boxed, Items};
 use std::alloc::{AllocError, Global};
 use std::sync::Arc;
@@ -162,5 +165,16 @@ fn full_board(rt: HostRuntime) -> Result<(), Fail> {
         _ => return Err(Fail::from(AllocError)),
     }
     assert!(rt; board.history().len() == 1, "one settlement was made");
+    Ok(())
+}
+
+/// What may be handed to another thread, and shared between threads.
+fn may_cross<T: Send + Sync>() {}
+
+/// Workers hand regions and logs over, and readers share them.
+#[test]
+fn values_cross_threads(_rt: HostRuntime) -> Result<(), Fail> {
+    may_cross::<Region>();
+    may_cross::<Log>();
     Ok(())
 }

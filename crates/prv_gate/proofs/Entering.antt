@@ -1,5 +1,5 @@
 -- Clauses are entered under their literals, one after another.
-use Rattle.std.proofs.Common.{◌≡◌, ℕ, suc, zero, ◌+◌, ◌*◌, ◌<◌, ◌≤◌, ◌≢◌, Bool, true, false, ◌||◌, List, [], ◌∷◌, ◌++◌, length, get_or, ℤ, pos, negsuc, unsigned_abs, eqb, refl, ap, sym, ◌∙◌, subst, arith, ⊎_elim, get_or-set_same, get_or-set_other, drop, drop-cons, add-one}
+use Rattle.std.proofs.Common.{◌≡◌, ℕ, suc, zero, ◌+◌, ◌*◌, ◌<◌, ◌≤◌, ◌≢◌, Bool, true, false, ◌||◌, List, [], ◌∷◌, ◌++◌, length, get_or, eqb, refl, ap, sym, ◌∙◌, subst, arith, ⊎_elim, get_or-set_same, get_or-set_other, drop, drop-cons, add-one}
 use Rattle.std.specs.List.{AllByRecursion}
 use Rattle.std.proofs.lemmas.Bool.Decides.{eqb_tells}
 use Rattle.std.proofs.lemmas.Bool.{eq-eqb}
@@ -7,8 +7,10 @@ use Rattle.std.proofs.Math.ListN.{length-set}
 use Rattle.prv_cnf.specs.declared.literal.Lit.{Lit}
 use Rattle.prv_cnf.specs.Literals.{same_literal, has_literal}
 use Rattle.prv_cnf.specs.Formulas.{IsLiteral}
-use Rattle.prv_cnf.proofs.Values.{same_literal-eq, same_number}
-use Rattle.prv_gate.specs.Occurrences.{place_signed, place_of, occurrences_of, with_occurrence, with_occurrences, is_listed, total, AreEntered}
+use Rattle.prv_cnf.specs.Places.{place_of}
+use Rattle.prv_cnf.proofs.Values.{same_literal-eq}
+use Rattle.prv_cnf.proofs.Placing.{place_of-le}
+use Rattle.prv_gate.specs.Occurrences.{occurrences_of, with_occurrence, with_occurrences, is_listed, total, AreEntered}
 
 -- ---- numbers in lists
 
@@ -56,25 +58,12 @@ all-below m n le (x ∷ xs) h = (omega (arith, h.0), all-below m n le xs h.1)
 
 -- ---- places
 
-place_signed-injective : (x y : ℤ) → place_signed x ≡ place_signed y → x ≡ y
-place_signed-injective (pos a) (pos b) e = ap pos (omega arith)
-place_signed-injective (pos a) (negsuc b) e = absurd (omega arith)
-place_signed-injective (negsuc a) (pos b) e = absurd (omega arith)
-place_signed-injective (negsuc a) (negsuc b) e = ap negsuc (omega arith)
-
-place_of-injective : (x y : Lit) → place_of x ≡ place_of y → x ≡ y
-place_of-injective x y e = same_number x y (place_signed-injective x.0 y.0 e)
-
-place_signed-bound : (z : ℤ) → place_signed z ≤ 2 * unsigned_abs z + 1
-place_signed-bound (pos n) = omega arith
-place_signed-bound (negsuc n) = omega arith
-
 -- literals of the first variables have places in a wide table
-pub places-inside : (vars n : ℕ) (c : List Lit) → 2 * vars + 2 ≤ n → AllByRecursion (IsLiteral vars) c → AllByRecursion (λ l. place_of l < n) c
+pub places-inside : (vars n : ℕ) (c : List Lit) → 2 * vars + 1 ≤ n → AllByRecursion (IsLiteral vars) c → AllByRecursion (λ l. place_of l < n) c
 places-inside vars n [] wide inside = tt
-places-inside vars n (l ∷ ls) wide inside = (omega (arith, place_signed-bound l.0, inside.0.1), places-inside vars n ls wide inside.1)
+places-inside vars n (l ∷ ls) wide inside = (omega (arith, place_of-le l, inside.0.1), places-inside vars n ls wide inside.1)
 
-pub all-places-inside : (vars n : ℕ) (cs : List (List Lit)) → 2 * vars + 2 ≤ n → AllByRecursion (AllByRecursion (IsLiteral vars)) cs → AllByRecursion (AllByRecursion (λ l. place_of l < n)) cs
+pub all-places-inside : (vars n : ℕ) (cs : List (List Lit)) → 2 * vars + 1 ≤ n → AllByRecursion (AllByRecursion (IsLiteral vars)) cs → AllByRecursion (AllByRecursion (λ l. place_of l < n)) cs
 all-places-inside vars n [] wide inside = tt
 all-places-inside vars n (c ∷ cs) wide inside = (places-inside vars n c wide inside.0, all-places-inside vars n cs wide inside.1)
 

@@ -1,20 +1,12 @@
 -- In which clauses each literal stands: a list of clause numbers for each literal, and what is kept of it.
 -- No public contract names it.
-use Rattle.std.specs.Prelude.{◌≡◌, ℕ, ◌+◌, ◌*◌, ◌<◌, ◌≤◌, nat_eq, Bool, false, List, [], ◌∷◌, ◌++◌, length, ℤ, pos, negsuc, slice_index_or, slice_set, Option, None}
+use Rattle.std.specs.Prelude.{◌≡◌, ℕ, ◌+◌, ◌<◌, ◌≤◌, nat_eq, Bool, false, List, [], ◌∷◌, ◌++◌, length, slice_index_or, slice_set, Option, None}
 use Rattle.std.specs.List.{list_any, AllByRecursion}
 use Rattle.prv_cnf.specs.declared.literal.Lit.{Lit}
 use Rattle.prv_cnf.specs.Literals.{has_literal}
+use Rattle.prv_cnf.specs.Places.{place_of}
 use Rattle.prv_gate.specs.Examining.{examined}
 use Rattle.prv_gate.specs.declared.propagate.Examined.TheVariants.{Open}
-
--- the place of a signed variable: those of variable k stand at 2k and 2k + 1
-abbrev pub place_signed : ℤ → ℕ
-place_signed (pos k) = 2 * k
-place_signed (negsuc k) = 2 * k + 3
-
--- the place of a literal
-abbrev pub place_of : Lit → ℕ
-place_of l = place_signed l.0
 
 -- the clauses that were entered under a literal
 abbrev pub occurrences_of : List (List ℕ) → Lit → List ℕ

@@ -1,17 +1,19 @@
 //! In which clauses each literal stands.
 ghost use Rattle.std.specs.Prelude.{◌≡◌, ℕ, ◌+◌, ◌*◌, ◌<◌, ◌≤◌, ◌++◌, ◌∷◌, [], length, slice_index_or, slice_set, OnOk};
 ghost use Rattle.std.specs.List.{AllByRecursion};
-ghost use Rattle.prv_gate.specs.Occurrences.{place_of, occurrences_of, with_occurrence, with_occurrences};
+ghost use Rattle.prv_cnf.specs.Places.{place_of};
+ghost use Rattle.prv_gate.specs.Occurrences.{occurrences_of, with_occurrence, with_occurrences};
 
 use prv_cnf::Lit;
+use smallvec::SmallVec;
 use std::alloc::{AllocError, Global};
 use std::marker::Model;
 
 /// The numbers of some clauses.
 #[derive(Drop)]
 struct Numbers {
-    /// Numbers of clauses, in the order in which they were entered.
-    items: Vec<u32>,
+    /// Numbers of clauses, in the order in which they were entered; up to four need no allocation.
+    items: SmallVec<u32, 4>,
 }
 
 impl Model for Numbers {
@@ -27,7 +29,7 @@ impl Numbers {
         ensures { result ≡ [] }
     {
         Numbers {
-            items: Vec::new(alloc),
+            items: SmallVec::new(alloc),
         }
     }
 
@@ -84,11 +86,11 @@ impl Occurrences {
 
     /// Makes room for the literals of so many variables.
     pub(crate) fn widen(&mut self, vars: u32) -> Result<(), AllocError>
-        ensures wide { OnOk result (2 * vars + 2 ≤ length self.new) }
+        ensures wide { OnOk result (2 * vars + 1 ≤ length self.new) }
         ensures same { OnOk result ((place : ℕ) → slice_index_or self.new place [] ≡ slice_index_or self.old place []) }
     {
         let alloc = self.alloc();
-        for _ in self.lists.len()..2 * vars as usize + 2 {
+        for _ in self.lists.len()..2 * vars as usize + 1 {
             self.lists.push(Numbers::new(alloc))?;
         }
         Ok(())
@@ -98,7 +100,7 @@ impl Occurrences {
     pub(crate) fn list(&self, lit: Lit) -> &[u32]
         ensures { result.now ≡ occurrences_of self.now lit }
     {
-        match self.lists.get(place(lit)) {
+        match self.lists.get(lit.place()) {
             Some(list) => list.as_slice(),
             None => &[],
         }
@@ -120,14 +122,7 @@ impl Occurrences {
         requires { place_of lit < length self.old }
         ensures { OnOk result (self.new ≡ with_occurrence clause lit self.old) }
     {
-        self.lists[place(lit)].push(clause)?;
+        self.lists[lit.place()].push(clause)?;
         Ok(())
     }
-}
-
-/// The literal's place in a table by literal: those of variable k stand at 2k and 2k + 1.
-fn place(lit: Lit) -> usize
-    ensures { result ≡ place_of lit }
-{
-    2 * lit.variable() as usize + usize::from(lit.0 < 0)
 }

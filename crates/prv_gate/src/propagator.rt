@@ -3,7 +3,8 @@ ghost use Rattle.std.specs.Prelude.{◌≡◌, ℕ, ◌<◌, ◌≤◌, true, fa
 ghost use Rattle.std.specs.List.{AllByRecursion};
 ghost use Rattle.prv_cnf.specs.Formulas.{IsLiteral};
 ghost use Rattle.prv_gate.specs.Propagation.{closure, has_conflict};
-ghost use Rattle.prv_gate.specs.Occurrences.{is_listed, place_of, AreEntered, AreOpen};
+ghost use Rattle.prv_cnf.specs.Places.{place_of};
+ghost use Rattle.prv_gate.specs.Occurrences.{is_listed, AreEntered, AreOpen};
 
 use crate::occurrences::Occurrences;
 use crate::propagate::propagate;

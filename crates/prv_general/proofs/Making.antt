@@ -11,7 +11,7 @@ use Rattle.prv_pool.proofs.TableLemmas.{has-at, add-there}
 use Rattle.prv_run.specs.declared.event.Event.{Event}
 use Rattle.prv_sym.specs.Calls.{Names, AllStand, symbol_at}
 use Rattle.prv_sym.specs.Symbols.{Symbol}
-use Rattle.prv_sym.proofs.Naming.{Grows, grows-none, symbol-kept, names-as, names-then, names-stop, names-one}
+use Rattle.prv_sym.proofs.Naming.{Grows, grows-none, only-all, symbol-kept, names-as, names-then, names-stop, names-one}
 use Rattle.prv_general.specs.Slices.{says_something, branch_condition, branch_condition_named}
 use Rattle.prv_general.specs.Conditions.{decides, decision, decision_names, conditions, condition_names, Flagged, flagged, if_kept, along, symbols_at}
 use Rattle.prv_general.proofs.Alongs.{along-more, along-rest}
@@ -37,7 +37,8 @@ pub named-twice : (t : Term) (old new : Table) (n : ℕ) → Makes t old new (Ok
 named-twice t old new n m =
     let once = names-one t old new (Ok n) m in
     let again : add_term t (add_term t old.terms) ≡ add_term t old.terms = add-there t (add_term t old.terms) (subst (λ (ts : List Term). has_term ts t ≡ true) m.grows (has-at new.terms n t m.stands)) in
-    record { grows = m.grows ∙ sym again; kept = once.kept; limit = once.limit; wide = λ e. absurd (cc) }
+    let grows = m.grows ∙ sym again in
+    record { grows = grows; kept = once.kept; only = only-all (t ∷ t ∷ []) old.terms new.terms grows; limit = once.limit; wide = λ e. absurd (cc) }
 
 -- the evaluation at a place, with whether it is kept and its symbol
 pub flagged-at : (terms : List Term) (kept : List Bool) (values safes : List ℕ) (k : ℕ) (b : Bool) (d e : ℕ) → k < length kept → length values ≡ length kept → length safes ≡ length kept →
@@ -63,10 +64,10 @@ refused-at {B = B} {C = C} f es xs i d x first old new a e h is one two =
 
 -- what was named is named, though there was no memory then
 pub then-refused : {A B : Type 0} (more : List Term) (old new : Table) (x : A) → Names more old new (Ok x) → Names {A = B} more old new (Err Memory)
-then-refused more old new x n = record { grows = tt; kept = n.kept; limit = n.limit; wide = λ e. absurd (cc) }
+then-refused more old new x n = record { grows = tt; kept = n.kept; only = n.only; limit = n.limit; wide = λ e. absurd (cc) }
 
 pub named-none : (table : Table) → Names [] table table (Ok (tt {0}))
-named-none table = record { grows = refl; kept = grows-none table.terms; limit = refl; wide = λ e. absurd (cc) }
+named-none table = record { grows = refl; kept = grows-none table.terms; only = grows-none table.terms; limit = refl; wide = λ e. absurd (cc) }
 
 -- one evaluation of a run whose nodes are those of a first table, of which the present one has grown
 module _ (es : List Event) (kept : List Bool) (values safes : List ℕ) (first : List Term) (k : ℕ) (below : k < length es) (flags : length kept ≡ length es) (vs : length values ≡ length es) (ss : length safes ≡ length es)

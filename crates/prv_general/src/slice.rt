@@ -85,7 +85,8 @@ pub fn slice_at(
 
 /// The slice of a program at an input, as `slice_at` makes it, if it has at most 1,024 literals.
 ///
-/// The pool has then all terms that are named on the way, also where the literals are too many.
+/// The pool has then all terms that are named on the way, also where the literals are too many. Any other
+/// refusal leaves a beginning of these.
 pub fn generalise(
     alloc: Global,
     program: &Program,
@@ -102,6 +103,7 @@ pub fn generalise(
     ensures grows { OnOk result (pool.new.terms ≡ add_terms pool.old.terms (slice_named program.now turns input.now)) }
     ensures counted { result ≡ Err GeneralError.Literals → pool.new.terms ≡ add_terms pool.old.terms (slice_named program.now turns input.now) }
     ensures kept { (made : List Term) × (pool.new.terms ≡ pool.old.terms ++ made) }
+    ensures only { (rest : List Term) × (add_terms pool.old.terms (slice_named program.now turns input.now) ≡ pool.new.terms ++ rest) }
     ensures limit { pool.new.max_nodes ≡ pool.old.max_nodes }
     ensures few { OnOk result (length (slice program.now turns input.now).literals ≤ 1024) }
     ensures literals { result ≡ Err GeneralError.Literals → 1024 < length (slice program.now turns input.now).literals }

@@ -13,7 +13,7 @@ use Rattle.prv_model.specs.declared.program.Pair.{Pair}
 use Rattle.prv_model.specs.declared.term.Term.{Term}
 use Rattle.prv_pool.specs.Folding.{negation}
 use Rattle.prv_pool.specs.Tables.{term_at}
-use Rattle.prv_pool.specs.Zeros.{IsFirstZero}
+use Rattle.prv_region.specs.Zeros.{IsFirstZero}
 use Rattle.prv_pool.proofs.NodeLemmas.{term_at-append}
 use Rattle.prv_part.specs.Literals.{pair_literals, decided_equality}
 use Rattle.prv_part.specs.Parts.{Other, Found, Left, rests, unmarked, partition, open_rests, second_part, parts_of}

@@ -8,7 +8,7 @@ ghost use Rattle.prv_part.specs.Holders.{HoldsPart, part_without as part_without
 use crate::settlement::Settlement;
 use crate::shape::Shape;
 use prv_model::Input;
-use prv_pool::{MAX_REGION_NODES, Scratch};
+use prv_region::{MAX_REGION_NODES, Scratch};
 
 /// Which part has the inputs on which the literal at this place of the first part is the first that is 0. The
 /// first part has `all` literals, of which `known` are those of the region.

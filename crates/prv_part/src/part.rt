@@ -3,7 +3,7 @@
 ghost use Rattle.std.specs.Prelude.{◌≡◌, IfOk};
 
 use prv_model::Kind;
-use prv_pool::Region;
+use prv_region::Region;
 use sqlite_items::Items;
 use std::alloc::{AllocError, Global};
 

@@ -10,7 +10,7 @@ ghost use Rattle.prv_part.specs.Settlements.{Finding, finding, IsSettlement};
 use crate::part::Part;
 use crate::shape::Shape;
 use prv_model::{Input, Pair};
-use prv_pool::Region;
+use prv_region::Region;
 use sqlite_items::Items;
 use std::alloc::AllocError;
 use std::marker::Model;

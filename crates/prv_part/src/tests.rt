@@ -5,7 +5,8 @@ ghost use Rattle.prv_part.specs.Parts.{unmarked};
 
 use crate::{Part, Settlement, Shape};
 use prv_model::{Expr, Kind, Name, Pair, Program, Reason, Stmt};
-use prv_pool::{Cond, Pool, Region};
+use prv_pool::Pool;
+use prv_region::{Cond, Region};
 use sqlite_items::Items;
 use std::alloc::{AllocError, Global};
 use std::sync::Arc;

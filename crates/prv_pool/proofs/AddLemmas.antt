@@ -6,8 +6,7 @@ use Rattle.prv_model.specs.declared.term.Term.{Term}
 use Rattle.prv_model.specs.declared.term.Term.TheVariants.{Param, Op, Pick, Num, rolls-Op, rolls-Pick}
 use Rattle.prv_model.specs.declared.term.Term.TheOpen.{Term-F}
 use Rattle.prv_model.specs.declared.term.Term.TheFolds.{fold-Term, fold-roll-Term}
-use Rattle.prv_pool.specs.Tables.{has_term, add_term}
-use Rattle.prv_pool.specs.Copies.{Grown}
+use Rattle.prv_pool.specs.Tables.{Grown, has_term, add_term}
 use Rattle.prv_pool.proofs.Shapes.{add-Param, add-Op, add-Pick, add-Num}
 use Rattle.prv_pool.proofs.TableLemmas.{by-term, same-itself, same-not, has-append, has-more, add-there, else-is, IsClosed}
 

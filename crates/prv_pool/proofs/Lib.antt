@@ -9,7 +9,3 @@ pub mod MakeLemmas
 pub mod FoldedLemmas
 pub mod FoundLemmas
 pub mod FoldLaws
-pub mod ValueLemmas
-pub mod NumberLemmas
-pub mod CopyLemmas
-pub mod PairLemmas

@@ -3,9 +3,3 @@ pub mod Tables
 pub mod Nodes
 pub mod Folds
 pub mod Steps
-pub mod Values
-pub mod Zeros
-pub mod Regions
-pub mod Numbers
-pub mod Pairs
-pub mod Copies

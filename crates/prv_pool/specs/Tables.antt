@@ -54,6 +54,11 @@ add_term = para-Term (List Term → List Term) node_added
 abbrev pub add_terms : List Term → List Term → List Term
 add_terms terms more = fold (λ made t. add_term t made) terms more
 
+-- a list goes on from another
+pub record Grown (old new : List Term) : Type 0 where
+  pub more : List Term
+  pub is : new ≡ old ++ more
+
 -- the operands of one node, from left to right
 abbrev pub node_operands : Term-F Term → List Term
 node_operands (Term-F.Param k) = []

@@ -77,7 +77,7 @@ impl Pool {
     }
 
     /// What a pool keeps of its terms.
-    pub(crate) fn keeps_a_table(&self)
+    pub fn keeps_a_table(&self)
         ensures { IsTable self.now }
     {
         let _ = &self.nodes;
@@ -116,7 +116,7 @@ impl Pool {
     }
 
     /// The number of a node, which is added where it isn't there yet.
-    pub(crate) fn intern(&mut self, node: Node) -> Result<u32, PoolError>
+    pub fn intern(&mut self, node: Node) -> Result<u32, PoolError>
         requires below { AreBelow (length self.old.terms) node }
         requires is_folded { is_folded (node_term self.old.terms node) ≡ true }
         ensures { Makes (node_term self.old.terms node) self.old self.new result }
@@ -148,7 +148,7 @@ impl Pool {
     }
 
     /// Keeps the first nodes.
-    pub(crate) fn truncate(&mut self, count: u32)
+    pub fn truncate(&mut self, count: u32)
         ensures { self.new ≡ record self.old { terms = take count self.old.terms } }
     {
         self.nodes.truncate(count as usize);

@@ -13,7 +13,7 @@ use Rattle.prv_check.specs.Lines.{known, is_within}
 use Rattle.prv_propagate.specs.declared.trail.Step.{Step}
 use Rattle.prv_propagate.specs.declared.watches.Pair.{Pair}
 use Rattle.prv_propagate.specs.declared.watches.Watch.{Watch}
-use Rattle.prv_propagate.specs.Places.{place_of}
+use Rattle.prv_cnf.specs.Places.{place_of}
 use Rattle.prv_propagate.specs.Trails.{Trailing, trues, step_at, IsDecision, IsAssignment}
 use Rattle.prv_propagate.specs.Reasons.{clause_of, is_falsified, are_others_false, is_reason, IsJustified, AreJustified}
 use Rattle.prv_propagate.specs.Guards.{pair_of, is_pair, is_guarded, AreGuarded, IsBased}
@@ -194,18 +194,18 @@ line_added cs c t w lit second keep n sound propagated few within open_lit not_t
     )
 
 -- at the start of loading
-pub loading_none : (cs : List (List Lit)) (t : Trailing) (w : Watching) → ((k : ℕ) → k < length cs → list_all (is_within t.vars) (clause_of cs k) ≡ true) → length cs < 2 ^ 32 → t.steps ≡ [] → w.pairs ≡ [] → w.lists ≡ replicate (2 * t.vars + 2) [] → IsLoading cs 0 t w
+pub loading_none : (cs : List (List Lit)) (t : Trailing) (w : Watching) → ((k : ℕ) → k < length cs → list_all (is_within t.vars) (clause_of cs k) ≡ true) → length cs < 2 ^ 32 → t.steps ≡ [] → w.pairs ≡ [] → w.lists ≡ replicate (2 * t.vars + 1) [] → IsLoading cs 0 t w
 loading_none cs t w within few steps pairs lists = record {
   within = within;
   few = few;
-  places = ap length lists ∙ length-replicate (2 * t.vars + 2) [];
+  places = ap length lists ∙ length-replicate (2 * t.vars + 1) [];
   inside = omega arith;
   watched = record {
     each = ap length pairs;
     pairs = λ k h. absurd (omega arith);
     firsts = λ k h. absurd (omega arith);
     seconds = λ k h. absurd (omega arith);
-    entries = λ q. rw lists (empty_lists cs (2 * t.vars + 2) q);
+    entries = λ q. rw lists (empty_lists cs (2 * t.vars + 1) q);
   };
   justified = λ k h. absurd (omega (arith, ap length steps));
   implied = λ k h. absurd (omega (arith, ap length steps));
@@ -229,7 +229,7 @@ loading_more cs t u w n p l inside paired first second vars within justified imp
     record {
       within = rw vars l.within;
       few = l.few;
-      places = attached_lists w n p ∙ l.places ∙ ap (λ (v : ℕ). 2 * v + 2) (sym vars);
+      places = attached_lists w n p ∙ l.places ∙ ap (λ (v : ℕ). 2 * v + 1) (sym vars);
       inside = omega arith;
       watched = rw e (attach_more (take n cs) c w p n l.watched len paired first second);
       justified = justified;

@@ -7,10 +7,10 @@ use Rattle.std.proofs.lemmas.List.Folds.{list_any-append, list_all-append}
 use Rattle.prv_cnf.specs.declared.literal.Lit.{Lit}
 use Rattle.prv_cnf.specs.Literals.{has_literal}
 use Rattle.prv_propagate.specs.declared.watches.Watch.{Watch}
-use Rattle.prv_propagate.specs.Places.{place_of}
+use Rattle.prv_cnf.specs.Places.{place_of}
 use Rattle.prv_propagate.specs.Reasons.{clause_of}
 use Rattle.prv_propagate.specs.Watching.{Watching, watches_of, watch_at, is_listed, is_entry, without, with_list, removed, blocked, added}
-use Rattle.prv_propagate.proofs.Tabling.{place_of-injective}
+use Rattle.prv_cnf.proofs.Placing.{place_of-injective}
 
 -- an element that passes a test has a place
 pub any_place : {X : Type 0} (p : X → Bool) (d : X) (xs : List X) → list_any p xs ≡ true → (k : ℕ) × (k < length xs) × (p (get_or xs k d) ≡ true)

@@ -6,15 +6,6 @@ use Rattle.prv_cnf.specs.declared.literal.Lit.{Lit}
 use Rattle.prv_cnf.specs.Literals.{variable, negate, same_literal, has_literal}
 use Rattle.prv_cnf.proofs.Values.{same_literal-eq, same_literal_refl, same_number}
 
-variable_neg : (z : ℤ) → unsigned_abs (neg_ℤ z) ≡ unsigned_abs z
-variable_neg (pos zero) = refl
-variable_neg (pos (suc n)) = refl
-variable_neg (negsuc n) = refl
-
--- a literal and its negation have one variable
-pub variable-negate : (l : Lit) → variable (negate l) ≡ variable l
-variable-negate l = variable_neg l.0
-
 signed_same : (a b : ℤ) → unsigned_abs a ≡ unsigned_abs b → (a ≡ b) ⊎ (a ≡ neg_ℤ b)
 signed_same (pos a) (pos b) e = inl (ap pos e)
 signed_same (pos a) (negsuc b) e = inr (ap pos e)

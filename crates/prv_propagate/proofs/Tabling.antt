@@ -1,6 +1,6 @@
 -- The tables beside a trail.
-use Rattle.std.proofs.Common.{◌≡◌, ℕ, ◌+◌, ◌*◌, ◌<◌, ◌≤◌, Bool, true, false, not, ◌&&◌, ◌||◌, List, [], ◌∷◌, ◌++◌, ℤ, pos, negsuc, length, take, drop, get_or, count_by, refl, sym, ap, subst, inl, inr, ◌∙◌, arith}
-use Rattle.std.proofs.Common.{set, cond, unsigned_abs}
+use Rattle.std.proofs.Common.{◌≡◌, ℕ, ◌+◌, ◌*◌, ◌<◌, ◌≤◌, Bool, true, false, not, ◌&&◌, ◌||◌, List, [], ◌∷◌, ◌++◌, length, take, drop, get_or, count_by, refl, sym, ap, subst, inl, inr, ◌∙◌, arith}
+use Rattle.std.proofs.Common.{set, cond}
 use Rattle.std.proofs.lemmas.List.{get_or_read, take-append-drop, get_or-drop, length-drop}
 use Rattle.std.proofs.lemmas.Bool.Decides.{nat_tests}
 use Rattle.std.specs.List.{list_all}
@@ -10,32 +10,16 @@ use Rattle.std.proofs.lemmas.List.Folds.{list_any-append}
 use Rattle.std.proofs.lemmas.List.Sums.{sum_by-set, count_by-le-length}
 use Rattle.prv_cnf.specs.declared.literal.Lit.{Lit}
 use Rattle.prv_cnf.specs.Literals.{variable, negate, same_literal, has_literal}
-use Rattle.prv_cnf.proofs.Values.{same_literal-eq, same_literal_refl, same_number, all-has_literal}
+use Rattle.prv_cnf.proofs.Values.{same_literal-eq, same_literal_refl, variable-negate, all-has_literal}
+use Rattle.prv_cnf.proofs.Placing.{place_of-injective, place_of-le}
 use Rattle.prv_check.specs.Propagation.{is_false}
 use Rattle.prv_check.specs.Lines.{is_within}
 use Rattle.prv_propagate.specs.declared.trail.Step.{Step}
-use Rattle.prv_propagate.specs.Places.{place_signed, place_of}
+use Rattle.prv_cnf.specs.Places.{place_of}
 use Rattle.prv_propagate.specs.Trails.{trues, step_at, IsDecision, IsAssignment}
 use Rattle.prv_propagate.specs.Keeping.{IsRising, IsLevel, IsLeveled, IsTrail, AreUnmarked}
-use Rattle.prv_propagate.proofs.Signs.{variable-negate, one_variable, negate-apart, has_literal-push, all-push, all-from_each}
+use Rattle.prv_propagate.proofs.Signs.{one_variable, negate-apart, has_literal-push, all-push, all-from_each}
 use Rattle.prv_propagate.proofs.Stepping.{trues_push, place_in, true_at, true_later}
-
-place_signed-injective : (x y : ℤ) → place_signed x ≡ place_signed y → x ≡ y
-place_signed-injective (pos a) (pos b) e = ap pos (omega arith)
-place_signed-injective (pos a) (negsuc b) e = absurd (omega arith)
-place_signed-injective (negsuc a) (pos b) e = absurd (omega arith)
-place_signed-injective (negsuc a) (negsuc b) e = ap negsuc (omega arith)
-
--- two literals have two places
-pub place_of-injective : (x y : Lit) → place_of x ≡ place_of y → x ≡ y
-place_of-injective x y e = same_number x y (place_signed-injective x.0 y.0 e)
-
-place_signed-bound : (z : ℤ) → place_signed z ≤ 2 * unsigned_abs z + 1
-place_signed-bound (pos n) = omega arith
-place_signed-bound (negsuc n) = omega arith
-
-pub place_of-bound : (l : Lit) → place_of l ≤ 2 * variable l + 1
-place_of-bound l = place_signed-bound l.0
 
 -- the variable of a literal that is one of the first n
 pub within_parts : (n : ℕ) (l : Lit) → is_within n l ≡ true → (0 < variable l) × (variable l ≤ n)
@@ -92,7 +76,7 @@ or_same false false h = refl
 
 -- the table has room for what isn't true
 pub free_place : {n : ℕ} {table : List Bool} {steps : List Step} {limits positions : List ℕ} (t : IsTrail n table steps limits positions) (l : Lit) → is_within n l ≡ true → place_of l < length table
-free_place {n} {table} t l within = omega (arith, t.places, place_of-bound l, (within_parts n l within).1)
+free_place {n} {table} t l within = omega (arith, t.places, place_of-le l, (within_parts n l within).1)
 
 counted_more : (table : List Bool) (i : ℕ) → i < length table → get_or table i false ≡ false → count_by (λ b. b) (set table i true) ≡ count_by (λ b. b) table + 1
 counted_more table i inside free =
@@ -101,7 +85,7 @@ counted_more table i inside free =
     omega (arith, e, f)
 
 -- the trail is shorter than the table where a literal isn't true
-pub room_left : {n : ℕ} {table : List Bool} {steps : List Step} {limits positions : List ℕ} (t : IsTrail n table steps limits positions) (l : Lit) → is_within n l ≡ true → has_literal (trues steps) l ≡ false → length steps < 2 * n + 2
+pub room_left : {n : ℕ} {table : List Bool} {steps : List Step} {limits positions : List ℕ} (t : IsTrail n table steps limits positions) (l : Lit) → is_within n l ≡ true → has_literal (trues steps) l ≡ false → length steps < 2 * n + 1
 room_left {n} {table} {steps} t l within free =
     let i = free_place t l within in
     let e = counted_more table (place_of l) i (t.marks l ∙ free) in

@@ -10,7 +10,7 @@ use Rattle.prv_check.specs.Propagation.{is_false}
 use Rattle.prv_propagate.specs.declared.trail.Step.{Step}
 use Rattle.prv_propagate.specs.declared.watches.Pair.{Pair}
 use Rattle.prv_propagate.specs.declared.watches.Watch.{Watch}
-use Rattle.prv_propagate.specs.Places.{place_of}
+use Rattle.prv_cnf.specs.Places.{place_of}
 use Rattle.prv_propagate.specs.Trails.{Trailing, trues, step_at, IsDecision}
 use Rattle.prv_propagate.specs.Reasons.{clause_of, is_satisfied, are_others_false, IsJustified}
 use Rattle.prv_propagate.specs.Guards.{pair_of, is_guarded, AreGuarded, IsBased}
@@ -19,7 +19,7 @@ use Rattle.prv_propagate.specs.Soundness.{IsSound, ArePropagated, IsOther}
 use Rattle.prv_propagate.specs.Walking.{IsWalk, false_by}
 use Rattle.prv_propagate.proofs.Signs.{has_literal-push}
 use Rattle.prv_propagate.proofs.Stepping.{trues_push, true_at, true_later, EachStep-push}
-use Rattle.prv_propagate.proofs.Tabling.{place_of-bound}
+use Rattle.prv_cnf.proofs.Placing.{place_of-le}
 use Rattle.prv_propagate.proofs.Listing.{any_place, all_place, list_same, list_other, same_or_other, take-without, length-without, removed_keeps, blocked_keeps, added_keeps, added_there, removed_entries, blocked_entries, added_entries, entry_parts}
 use Rattle.prv_propagate.proofs.Guarding.{IsWithin, satisfied_from, guarded_later, guarded_satisfied, guarded_past, guarded_anew, pair_from, other_in, other_apart}
 
@@ -36,7 +36,7 @@ front_more steps from inside = ap trues (take_more steps from (step_at [] 0) ins
 
 -- the places in the lists
 pub list_inside : {cs : List (List Lit)} {t : Trailing} {w : Watching} → IsSound cs t w → (l : Lit) → variable l ≤ t.vars → place_of l < length w.lists
-list_inside {cs} {t} {w} s l h = omega (arith, s.places, place_of-bound l)
+list_inside {cs} {t} {w} s l h = omega (arith, s.places, place_of-le l)
 
 -- a clause that is not guarded past a step watches the literal that is false by it
 unwatched : (cs : List (List Lit)) (w : Watching) (steps : List Step) (from k : ℕ) → from < length steps → ArePropagated cs w.pairs steps from → k < length cs → ((pair_of w.pairs k).first ≡ false_by steps from → ⊥) → ((pair_of w.pairs k).second ≡ false_by steps from → ⊥) → is_guarded (trues (take (from + 1) steps)) (trues steps) (clause_of cs k) (pair_of w.pairs k) ≡ true

@@ -6,7 +6,7 @@ use Rattle.prv_cnf.specs.declared.formula.TheConstants.{MAX_VARS}
 use Rattle.prv_cnf.specs.Literals.{variable, has_literal}
 use Rattle.prv_check.specs.Lines.{is_within}
 use Rattle.prv_propagate.specs.declared.trail.Step.{Step}
-use Rattle.prv_propagate.specs.Places.{place_of}
+use Rattle.prv_cnf.specs.Places.{place_of}
 use Rattle.prv_propagate.specs.Trails.{trues, step_at, IsDecision}
 
 -- each number is less than the next
@@ -29,7 +29,7 @@ pub record IsLeveled (steps : List Step) (limits : List ℕ) : Type 0 where
 -- stands under its variable
 pub record IsTrail (n : ℕ) (table : List Bool) (steps : List Step) (limits positions : List ℕ) : Type 0 where
   pub small : n ≤ MAX_VARS
-  pub places : length table ≡ 2 * n + 2
+  pub places : length table ≡ 2 * n + 1
   pub marks : (l : Lit) → slice_index_or table (place_of l) false ≡ has_literal (trues steps) l
   pub counted : length steps ≤ count_by (λ b. b) table
   pub room : length positions ≡ n + 1

@@ -1,4 +1,3 @@
-pub mod Places
 pub mod Trails
 pub mod Reasons
 pub mod Guards

@@ -19,7 +19,7 @@ AreImplied steps = EachStep (λ _ s. IsDecision s → ⊥) steps
 pub record IsLoading (cs : List (List Lit)) (count : ℕ) (t : Trailing) (w : Watching) : Type 0 where
   pub within : (k : ℕ) → k < length cs → list_all (is_within t.vars) (clause_of cs k) ≡ true
   pub few : length cs < 2 ^ 32
-  pub places : length w.lists ≡ 2 * t.vars + 2
+  pub places : length w.lists ≡ 2 * t.vars + 1
   pub inside : count ≤ length cs
   pub watched : IsWatched (take count cs) w
   pub justified : AreJustified cs t.steps

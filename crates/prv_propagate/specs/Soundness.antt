@@ -19,7 +19,7 @@ use Rattle.prv_propagate.specs.Watching.{Watching, IsWatched}
 pub record IsSound (cs : List (List Lit)) (t : Trailing) (w : Watching) : Type 0 where
   pub within : (k : ℕ) → k < length cs → list_all (is_within t.vars) (clause_of cs k) ≡ true
   pub few : length cs < 2 ^ 32
-  pub places : length w.lists ≡ 2 * t.vars + 2
+  pub places : length w.lists ≡ 2 * t.vars + 1
   pub watched : IsWatched cs w
   pub justified : AreJustified cs t.steps
   pub based : AreBased cs w.pairs t.steps

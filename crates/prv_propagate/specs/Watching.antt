@@ -5,7 +5,7 @@ use Rattle.prv_cnf.specs.declared.literal.Lit.{Lit}
 use Rattle.prv_cnf.specs.Literals.{has_literal}
 use Rattle.prv_propagate.specs.declared.watches.Pair.{Pair}
 use Rattle.prv_propagate.specs.declared.watches.Watch.{Watch}
-use Rattle.prv_propagate.specs.Places.{place_of}
+use Rattle.prv_cnf.specs.Places.{place_of}
 use Rattle.prv_propagate.specs.Reasons.{clause_of}
 use Rattle.prv_propagate.specs.Guards.{pair_of, is_pair}
 

@@ -9,7 +9,7 @@ ghost use Rattle.prv_propagate.specs.Loading.{AreImplied, IsLoading, IsLoaded};
 ghost use Rattle.prv_propagate.specs.Reasons.{AreJustified};
 
 use crate::clauses::clause_at;
-use crate::places::is_same;
+use crate::same::is_same;
 use crate::trail::Trail;
 use crate::watches::{Pair, Watches};
 use prv_cnf::{Cnf, Lit};
@@ -23,7 +23,7 @@ pub fn load(cnf: &Cnf, watches: &mut Watches, trail: &mut Trail) -> Result<Optio
     requires vars { trail.old.vars ≡ cnf.now.vars }
     requires steps { trail.old.steps ≡ [] }
     requires pairs { watches.old.pairs ≡ [] }
-    requires lists { watches.old.lists ≡ replicate (2 * cnf.now.vars + 2) [] }
+    requires lists { watches.old.lists ≡ replicate (2 * cnf.now.vars + 1) [] }
     ensures loaded { IfOk result (IsLoaded (known cnf.now []) trail.new watches.new) }
     ensures vars { OnOk result (trail.new.vars ≡ trail.old.vars) }
 {

@@ -4,11 +4,10 @@ ghost use Rattle.std.specs.Prelude.{◌≡◌, ℕ, ◌+◌, ◌*◌, ◌<◌, �
 ghost use Rattle.prv_cnf.specs.Literals.{variable, has_literal};
 ghost use Rattle.prv_check.specs.Lines.{is_within};
 ghost use Rattle.prv_check.specs.Propagation.{is_false};
-ghost use Rattle.prv_propagate.specs.Places.{place_of};
+ghost use Rattle.prv_cnf.specs.Places.{place_of};
 ghost use Rattle.prv_propagate.specs.Keeping.{IsRising, IsLevel, AreUnmarked};
 ghost use Rattle.prv_propagate.specs.Trails.{Trailing, IsAssignment, IsDecision, IsCut, trues, step_at};
 
-use crate::places::{negated_place, place};
 use prv_cnf::{Lit, MAX_VARS};
 use std::alloc::{AllocError, Global};
 use std::marker::Model;
@@ -51,7 +50,7 @@ impl Model for Trail {
     ghost use Rattle.std.specs.Vec.{vec_capacity};
     ghost use Rattle.prv_propagate.specs.Keeping.{IsTrail};
 
-    ghost invariant = { λ t. IsTrail t.vars t.table.items t.steps.items t.limits.items t.positions.items × (2 * t.vars + 2 ≤ vec_capacity t.steps) };
+    ghost invariant = { λ t. IsTrail t.vars t.table.items t.steps.items t.limits.items t.positions.items × (2 * t.vars + 1 ≤ vec_capacity t.steps) };
 }
 
 impl Trail {
@@ -63,8 +62,8 @@ impl Trail {
         let count = vars as usize;
         Ok(Trail {
             vars,
-            table: vec![in alloc; false; 2 * count + 2]?,
-            steps: Vec::with_capacity(alloc, 2 * count + 2)?,
+            table: vec![in alloc; false; 2 * count + 1]?,
+            steps: Vec::with_capacity(alloc, 2 * count + 1)?,
             limits: Vec::with_capacity(alloc, count)?,
             positions: vec![in alloc; 0; count + 1]?,
         })
@@ -81,7 +80,7 @@ impl Trail {
     pub fn steps(&self) -> &[Step]
         ensures value { result.now ≡ self.now.steps }
         ensures assigned { IsAssignment self.now }
-        ensures bound { length result.now ≤ 2 * self.now.vars + 2 }
+        ensures bound { length result.now ≤ 2 * self.now.vars + 1 }
         ensures small { self.now.vars ≤ MAX_VARS }
     {
         self.steps.as_slice()
@@ -92,7 +91,7 @@ impl Trail {
     pub fn is_true(&self, lit: Lit) -> bool
         ensures { result ≡ has_literal (trues self.now.steps) lit }
     {
-        self.table.get(place(lit)).copied().unwrap_or(false)
+        self.table.get(lit.place()).copied().unwrap_or(false)
     }
 
     /// Whether the literal's negation is true.
@@ -100,7 +99,10 @@ impl Trail {
     pub fn is_false(&self, lit: Lit) -> bool
         ensures { result ≡ is_false (trues self.now.steps) lit }
     {
-        self.table.get(negated_place(lit)).copied().unwrap_or(false)
+        self.table
+            .get(lit.negated_place())
+            .copied()
+            .unwrap_or(false)
     }
 
     /// Makes a literal true that the clause with this number implies.
@@ -112,7 +114,7 @@ impl Trail {
         requires reason { reason < NO_REASON }
         ensures { self.new ≡ record self.old { steps = self.old.steps ++ record { lit = lit; reason = reason } ∷ [] } }
     {
-        self.table[place(lit)] = true;
+        self.table[lit.place()] = true;
         self.positions[lit.variable() as usize] = self.steps.len() as u32;
         self.steps.push(Step { lit, reason }).unwrap();
     }
@@ -125,7 +127,7 @@ impl Trail {
         ensures { OnOk result (self.new ≡ record self.old { steps = self.old.steps ++ record { lit = lit; reason = NO_REASON } ∷ [] }) }
     {
         self.limits.push(self.steps.len())?;
-        self.table[place(lit)] = true;
+        self.table[lit.place()] = true;
         self.positions[lit.variable() as usize] = self.steps.len() as u32;
         self.steps
             .push(Step {
@@ -199,7 +201,7 @@ fn unmark(table: &mut Vec<bool>, steps: &[Step])
     ensures count { count_by (λ b. b) table.old.items ≤ count_by (λ b. b) table.new.items + length steps.now }
 {
     for step in steps {
-        table[place(step.lit)] = false;
+        table[step.lit.place()] = false;
     }
 }
 

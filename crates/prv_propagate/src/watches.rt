@@ -1,11 +1,11 @@
 //! The watched literals of each clause, and the clauses that watch each literal.
 ghost use Rattle.std.specs.Prelude.{◌≡◌, ◌+◌, ◌*◌, ◌<◌, ◌≤◌, ◌++◌, ◌∷◌, [], length, slice_set, replicate, IfOk, OnOk};
-ghost use Rattle.prv_propagate.specs.Places.{place_of};
+ghost use Rattle.prv_cnf.specs.Places.{place_of};
 ghost use Rattle.prv_propagate.specs.Watching.{Watching, watches_of, watch_at, without, removed, blocked, added, attached, rewatched};
 ghost use Rattle.prv_propagate.specs.Guards.{pair_of};
 
-use crate::places::place;
 use prv_cnf::{Lit, MAX_VARS};
+use smallvec::SmallVec;
 use std::alloc::{AllocError, Global};
 use std::marker::Model;
 
@@ -20,7 +20,7 @@ pub struct Pair {
 
 /// A clause in a watch list, and another literal of it: where that is true, the clause need not be
 /// looked at.
-#[derive(Clone, Copy, Debug)]
+#[derive(Clone, Copy, Debug, Default)]
 pub struct Watch {
     /// The number of the clause.
     pub clause: u32,
@@ -31,8 +31,8 @@ pub struct Watch {
 /// A list of watches.
 #[derive(Debug, Drop)]
 pub struct WatchList {
-    /// The watches, in no order.
-    items: Vec<Watch>,
+    /// The watches, in no order; up to two need no allocation.
+    items: SmallVec<Watch, 2>,
 }
 
 impl Model for WatchList {
@@ -49,7 +49,7 @@ impl WatchList {
         ensures { result ≡ [] }
     {
         WatchList {
-            items: Vec::new(alloc),
+            items: SmallVec::new(alloc),
         }
     }
 
@@ -77,8 +77,9 @@ impl WatchList {
         requires { at < length self.old }
         ensures { self.new ≡ slice_set self.old at (record { clause = (watch_at self.old at).clause; blocker = blocker }) }
     {
-        let clause = self.items[at].clause;
-        self.items[at] = Watch { clause, blocker };
+        let watches = self.items.as_mut_slice();
+        let clause = watches[at].clause;
+        watches[at] = Watch { clause, blocker };
     }
 }
 
@@ -103,9 +104,9 @@ impl Watches {
     /// No clauses, over so many variables.
     pub fn new(alloc: Global, vars: u32) -> Result<Watches, AllocError>
         requires { vars ≤ MAX_VARS }
-        ensures { IfOk result (λ w. w ≡ record { pairs = []; lists = replicate (2 * vars + 2) [] }) }
+        ensures { IfOk result (λ w. w ≡ record { pairs = []; lists = replicate (2 * vars + 1) [] }) }
     {
-        let places = 2 * vars as usize + 2;
+        let places = 2 * vars as usize + 1;
         let mut lists = Vec::with_capacity(alloc, places)?;
         for _ in 0..places {
             lists.push(WatchList::new(alloc))?;
@@ -121,7 +122,7 @@ impl Watches {
     pub fn list(&self, lit: Lit) -> &[Watch]
         ensures { result.now ≡ watches_of self.now lit }
     {
-        match self.lists.get(place(lit)) {
+        match self.lists.get(lit.place()) {
             Some(list) => list.as_slice(),
             None => &[],
         }
@@ -152,7 +153,7 @@ impl Watches {
         requires { place_of lit < length self.old.lists }
         ensures { OnOk result (self.new ≡ added self.old lit clause blocker) }
     {
-        self.lists[place(lit)].push(Watch { clause, blocker })?;
+        self.lists[lit.place()].push(Watch { clause, blocker })?;
         Ok(())
     }
 
@@ -163,7 +164,7 @@ impl Watches {
         requires at { at < length (watches_of self.old lit) }
         ensures { self.new ≡ removed self.old lit at }
     {
-        self.lists[place(lit)].remove(at);
+        self.lists[lit.place()].remove(at);
     }
 
     /// Sets the blocker of the watch at a place of the list under a literal.
@@ -172,7 +173,7 @@ impl Watches {
         requires at { at < length (watches_of self.old lit) }
         ensures { self.new ≡ blocked self.old lit at blocker }
     {
-        self.lists[place(lit)].set_blocker(at, blocker);
+        self.lists[lit.place()].set_blocker(at, blocker);
     }
 
     /// Gives a clause another pair, whose first literal is new: the watch at a place of the list

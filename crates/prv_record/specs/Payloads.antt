@@ -1,5 +1,8 @@
--- How many bytes a record takes in a journal: numbers of 32 bits take four, and the kind, the shape and each choice take one.
-use Rattle.std.specs.Prelude.{ℕ, ◌+◌, ◌*◌, List, length, ℤ, Option, Some, None}
+-- How many bytes a record takes in the first form: numbers of 32 bits take four, and the kind, the shape and each choice take one.
+use Rattle.std.specs.Prelude.{⊤, ℕ, ◌+◌, ◌*◌, ◌<◌, ◌^◌, List, length, ℤ, Option, Some, None, IfSome}
+use Rattle.std.specs.List.{AllByRecursion}
+use Rattle.prv_cnf.specs.Literals.{variable}
+use Rattle.prv_cnf.specs.declared.literal.Lit.{Lit}
 use Rattle.prv_model.specs.declared.entry.Reason.{Reason}
 use Rattle.prv_model.specs.declared.entry.Reason.TheVariants as r
 use Rattle.prv_check.specs.LogLines.{LogLine, line_numbers}
@@ -61,3 +64,18 @@ choice_length Beyond = 0
 -- the kind, the entry and the shape, and then what the shape has
 abbrev pub payload_length : Raw → ℕ
 payload_length raw = 6 + choice_length raw.shape + member_length raw.member + other_length raw.other + proof_length raw.proof
+
+-- ---- records that are no longer in the second form but by what the entry and the inputs take
+
+abbrev pub IsSmallLiteral : Lit → Type 0
+IsSmallLiteral l = variable l < 2 ^ 27
+
+-- neither a literal nor a hint takes more than four bytes in the second form
+pub record IsSmallLine (s : LogLine) : Type 0 where
+  pub literals : AllByRecursion IsSmallLiteral s.clause
+  pub hints : AllByRecursion (λ n. n < 2 ^ 28) s.hints
+
+abbrev pub HasSmallLines : Proof → Type 0
+HasSmallLines p.None = ⊤
+HasSmallLines (p.Log log) = AllByRecursion IsSmallLine log
+HasSmallLines (p.Spent log next) = AllByRecursion IsSmallLine log × IfSome next IsSmallLine

@@ -1,4 +1,5 @@
-//! The record of a settlement as it is written and rechecked.
+//! The record of a settlement before anybody has checked it: what a shape has is in its fields, and
+//! which of them stand together the table of shapes says.
 use prv_check::{Line, Log};
 use prv_model::{Input, Reason};
 use prv_part::Shape;
@@ -8,17 +9,20 @@ use prv_part::Shape;
 pub struct Raw {
     /// The number of the entry that it settles.
     pub entry: u32,
+    /// What its region is found to be.
     pub shape: Shape,
     /// The input that was run.
     pub member: Option<Input>,
     /// What is shown beside it.
     pub other: RawOther,
+    /// What it proves itself by.
     pub proof: Proof,
 }
 
 /// What a record shows beside the input that was run.
 #[derive(Drop)]
 pub enum RawOther {
+    /// Nothing.
     None,
     /// An input of the second part.
     Member(Input),
@@ -29,6 +33,7 @@ pub enum RawOther {
 /// What a record proves itself by.
 #[derive(Drop)]
 pub enum Proof {
+    /// Nothing: the claims stand by themselves.
     None,
     /// A log that refutes a formula.
     Log(Log),

@@ -4,6 +4,7 @@ ghost use Rattle.prv_settle.specs.declared.limits.TheConstants.{MAX_LINES};
 
 use crate::expansion::expanded;
 use crate::formulas::{Shown, shown_of};
+use crate::payloads::{first_answer, record_answer};
 use crate::refusal::Refusal;
 use crate::settlements::{
     board_answer, capped_answer, find_answer, parent_answer, path_answer, settle_answer,
@@ -55,6 +56,8 @@ pub fn answer(alloc: Global, row: &str) -> Result<String, Refusal> {
         "formula" => formula_answer(alloc, text),
         "search" => search_answer(alloc, text),
         "edges" => edges_answer(alloc, text),
+        "first" => first_answer(alloc, text),
+        "record" => record_answer(alloc, text),
         _ => Err(Refusal::Row),
     }
 }

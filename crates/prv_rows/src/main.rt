@@ -6,6 +6,7 @@ mod boards;
 mod expansion;
 mod formulas;
 mod nodes;
+mod payloads;
 mod refusal;
 mod settlements;
 mod stages;

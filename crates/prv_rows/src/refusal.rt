@@ -6,6 +6,7 @@ use prv_line::LineError;
 use prv_marks::PairError;
 use prv_parse::ParseError;
 use prv_pool::PoolError;
+use prv_record::DecodeError;
 use prv_settle::SettleAtError;
 use prv_version::VersionError;
 use std::alloc::AllocError;
@@ -33,6 +34,8 @@ pub enum Refusal {
     Apply(#[from] ApplyError),
     #[error(transparent)]
     Check(#[from] CheckError),
+    #[error(transparent)]
+    Decode(#[from] DecodeError),
     #[error(transparent)]
     Number(#[from] ParseIntError),
     #[error("no such row")]

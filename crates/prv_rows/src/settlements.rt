@@ -3,10 +3,10 @@ use crate::boards::{asked, board_behind, capped, find, last_settled, path};
 use crate::refusal::Refusal;
 use crate::terms::show_term;
 use prv_board::{ApplyError, Board, Totals};
-use prv_model::{Input, Kind};
+use prv_model::{Input, Kind, Reason};
 use prv_part::Part;
-use prv_pool::Region;
 use prv_record::Proof;
+use prv_region::Region;
 use std::alloc::{AllocError, Global};
 
 /// The steps of a board, with ` : ` between them and its pair: of what the last one finds the shape, the input
@@ -122,29 +122,36 @@ fn show_kind(line: &mut String, kind: &Kind) -> Result<(), AllocError> {
         Kind::Empty => line.push_str("Empty"),
         Kind::Beyond => line.push_str("Beyond"),
         Kind::Unexplored => line.push_str("Unexplored"),
-        Kind::Undecided { reason } => write!(line, "Undecided {reason:?}"),
+        Kind::Undecided { reason } => show_reason(line, *reason),
     }
 }
 
-fn show_input(line: &mut String, input: &Input) -> Result<(), AllocError> {
+/// After how many lines a log has too many numbers depends on the solver, so that isn't shown.
+fn show_reason(line: &mut String, reason: Reason) -> Result<(), AllocError> {
+    match reason {
+        Reason::Numbers { lines: _ } => line.push_str("Undecided Numbers"),
+        reason => write!(line, "Undecided {reason:?}"),
+    }
+}
+
+/// The words of an input, each with a blank before it.
+pub(crate) fn show_input(line: &mut String, input: &Input) -> Result<(), AllocError> {
     for word in input.as_slice() {
         write!(line, " {word}")?;
     }
     Ok(())
 }
 
-/// How many lines a log has that refutes something depends on the solver, so it isn't shown.
+/// How many lines a log has that refutes something, or whose numbers are spent before its lines, depends on the
+/// solver, so it isn't shown.
 fn show_proof(line: &mut String, proof: &Proof) -> Result<(), AllocError> {
     match proof {
         Proof::None => Ok(()),
         Proof::Log(_) => line.push_str(" by a log"),
-        Proof::Spent { log, next } => {
+        Proof::Spent { next: Some(_), .. } => line.push_str(" by spent numbers"),
+        Proof::Spent { log, next: None } => {
             let count = log.lines().len();
-            write!(line, " by {count} lines")?;
-            if next.is_some() {
-                line.push_str(" and the next")?;
-            }
-            Ok(())
+            write!(line, " by {count} lines")
         }
     }
 }

@@ -48,7 +48,7 @@ full n u = attributes u.value n u.skeleton
 abbrev pub hole_in : {A B : Type 0} → (A → Skel) → (A → B) → Attributes A → Attributes B
 hole_in s f u = attributes (f u.value) u.before (s u.value ∷ [])
 
--- a rule may be no token
+-- a rule may be no token; what stands inside a construct never is
 abbrev pub nullable : {K : Type 0} {V : K → Type 0} {A : Type 0} → Rule V A → Bool
 nullable (Empty v) = true
 nullable (Terminal f e) = false
@@ -60,7 +60,7 @@ nullable (Hole s f a) = nullable a
 nullable (Construct k f a b) = nullable a && nullable b
 nullable Fail = false
 
--- a token begins a rule
+-- a token begins a rule; a construct is begun by what opens it
 abbrev pub first : {K : Type 0} {V : K → Type 0} {A : Type 0} → Rule V A → Token → Bool
 first (Empty v) t = false
 first (Terminal f e) t = is_there (f t)

@@ -1,5 +1,5 @@
 -- Logs with a line more.
-use Rattle.std.proofs.Common.{◌≡◌, ℕ, suc, zero, ◌+◌, ◌-◌, ◌<◌, ◌≤◌, true, List, [], ◌∷◌, ◌++◌, length, take, Option, None, Some, refl, ap, inl, inr, ◌∙◌, arith}
+use Rattle.std.proofs.Common.{◌≡◌, ℕ, suc, zero, ◌+◌, ◌-◌, ◌<◌, ◌≤◌, true, List, [], ◌∷◌, ◌++◌, length, take, get_or, Option, None, Some, refl, ap, inl, inr, ◌∙◌, arith}
 use Rattle.std.specs.Prelude.{slice_get, IfSome, IsTrue}
 use Rattle.std.specs.Option.{option_and_then}
 use Rattle.std.proofs.lemmas.Bool.{cases_lt}
@@ -11,6 +11,7 @@ use Rattle.prv_check.specs.Lines.{line_fault, Follows}
 use Rattle.prv_check.specs.Logs.{IsFaultless, ends_empty}
 use Rattle.prv_check.specs.Spending.{are_distinct, IsLearnt, AreLearnt, log_numbers, IsSpent}
 use Rattle.prv_sat.specs.Conclusions.{IsEnd}
+use Rattle.prv_sat.proofs.Learning.{end_by}
 use Rattle.prv_check.proofs.Spending.{ample_not_spent}
 use Rattle.prv_sat.specs.declared.found.Found.{Found}
 use Rattle.prv_sat.specs.declared.found.Found.TheVariants.{Values, Refuted, Spent}
@@ -88,3 +89,8 @@ pub decided_from : (f : Formula) (lines numbers : ℕ) (found : Found) → IsFou
 decided_from f lines numbers (Values v) h ample = tt
 decided_from f lines numbers (Refuted log) h ample = tt
 decided_from f lines numbers (Spent log next) h ample = ample_not_spent f log next lines numbers ample.enough_lines ample.enough_numbers h.0
+
+-- a clause without literals refutes the formula by one line
+pub refutation_by : (f : Formula) (n lines numbers : ℕ) (log : List LogLine) → n < length f.clauses → get_or f.clauses n [] ≡ [] → 0 < lines → log ≡ record { clause = []; hints = n ∷ [] } ∷ [] → IsRefutation f log lines numbers
+refutation_by f n lines numbers log inside none some e =
+    rw e (refutation f [] (record { clause = []; hints = n ∷ [] }) lines numbers (λ k. tt) (end_by f n inside none) (omega arith) some)

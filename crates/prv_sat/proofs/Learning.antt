@@ -1,8 +1,8 @@
 -- The line of the negations of the marked literals.
-use Rattle.std.proofs.Common.{◌≡◌, ℕ, ◌-◌, ◌<◌, Bool, true, false, not, ◌||◌, List, [], ◌∷◌, length, take, map, refl, sym, ap, inl, inr, ◌∙◌, arith}
+use Rattle.std.proofs.Common.{◌≡◌, ℕ, ◌-◌, ◌<◌, Bool, true, false, not, ◌||◌, List, [], ◌∷◌, length, take, get_or, map, refl, sym, ap, inl, inr, ◌∙◌, arith}
 use Rattle.std.specs.List.{list_all, list_any}
 use Rattle.std.proofs.lemmas.Bool.{cases_lt, or_cases, true≢false, or_right, or_left, and_parts, and_from, false_from_ne_true, not_from_false}
-use Rattle.std.proofs.lemmas.List.{take-take}
+use Rattle.std.proofs.lemmas.List.{append-nil, take-take}
 use Rattle.prv_cnf.specs.declared.literal.Lit.{Lit}
 use Rattle.prv_cnf.specs.Literals.{negate, same_literal, has_literal}
 use Rattle.prv_cnf.specs.Formulas.{Formula}
@@ -14,13 +14,15 @@ use Rattle.prv_check.specs.Freshness.{contains_clause, is_new, stands_in, units_
 use Rattle.prv_propagate.specs.declared.trail.Step.{Step}
 use Rattle.prv_propagate.specs.Trails.{Trailing, trues, step_at, IsAssignment}
 use Rattle.prv_propagate.specs.Reasons.{clause_of}
-use Rattle.prv_propagate.proofs.Signs.{variable-negate, all-from_each}
+use Rattle.prv_cnf.proofs.Values.{variable-negate}
+use Rattle.prv_propagate.proofs.Signs.{all-from_each}
 use Rattle.prv_propagate.proofs.Stepping.{true_at}
 use Rattle.prv_propagate.proofs.Listing.{any_place}
 use Rattle.prv_propagate.proofs.Guarding.{satisfied_by, free_parts}
 use Rattle.prv_propagate.proofs.Walking.{within_take}
 use Rattle.prv_sat.specs.declared.analysis.UniquePoint.{UniquePoint}
 use Rattle.prv_sat.specs.Analyses.{IsPartOf, IsDerived, IsUniquePoint, IsReach, AreOpen}
+use Rattle.prv_sat.proofs.Deriving.{derived_none}
 use Rattle.prv_sat.specs.Conclusions.{IsEnd, IsLearntClause}
 
 -- a literal and the negation of another
@@ -135,6 +137,23 @@ line_end f lines t [] hints assigned vars d = record {
   distinct = d.distinct;
 }
 line_end f lines t (x ∷ xs) hints assigned vars d = absurd (true≢false (sym (d.inside x (or_left (same_literal x x) (has_literal xs x) (same_literal_refl x)))))
+
+no_steps : (n : ℕ) → IsAssignment (record { vars = n; steps = [] })
+no_steps n = record {
+  within = refl;
+  consistent = λ l h. refl;
+  once = λ k inside. absurd (omega arith);
+}
+
+-- the last line, by a clause without literals
+pub end_by : (f : Formula) (n : ℕ) → n < length f.clauses → get_or f.clauses n [] ≡ [] → IsEnd f [] (record { clause = []; hints = n ∷ [] })
+end_by f n inside none =
+    let all : known f [] ≡ f.clauses = append-nil f.clauses in
+    let empty : clause_of (known f []) n ≡ [] = ap (λ (cs : List (List Lit)). get_or cs n []) all ∙ none in
+    let here : n < length (known f []) = rw all inside in
+    let falsified : list_all (is_false []) (clause_of (known f []) n) ≡ true = rw empty refl in
+    let is : (x : Lit) → has_literal [] x ≡ has_literal (clause_of (known f []) n) (negate x) = λ x. rw empty refl in
+    line_end f [] (record { vars = f.vars; steps = [] }) [] (n ∷ []) (no_steps f.vars) refl (derived_none (known f []) [] [] n (λ l h. refl) here falsified is)
 
 -- a step that was reached stands before the base
 below_base : (t : Trailing) (base k : ℕ) → IsAssignment t → k < length t.steps → has_literal (trues (take base t.steps)) (step_at t.steps k).lit ≡ true → k < base

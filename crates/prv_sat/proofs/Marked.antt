@@ -1,6 +1,7 @@
 -- Marked literals, as a list and a table.
 use Rattle.std.proofs.Common.{◌≡◌, ℕ, ◌+◌, ◌<◌, Bool, true, false, not, cond, ◌&&◌, ◌||◌, List, [], ◌∷◌, ◌++◌, length, take, map, get_or, set, eqb, filter, refl, sym, ap, ◌∙◌, arith}
 use Rattle.std.specs.List.{list_all}
+use Rattle.std.proofs.Math.Bool.{and-false}
 use Rattle.std.proofs.lemmas.Bool.{or_parts, or_from, true≢false, or_right, and_parts, and_from, false_from_ne_true, eqb-true, ne_eqb, not-true, not-false, not_from_false}
 use Rattle.std.proofs.lemmas.List.{append-nil, map-append, take_more, length-set, get_or-set_same, get_or-set_other}
 use Rattle.std.proofs.lemmas.List.Elements.{filter-append}
@@ -9,18 +10,15 @@ use Rattle.prv_cnf.specs.declared.literal.Lit.{Lit}
 use Rattle.prv_cnf.specs.Literals.{negate, same_literal, has_literal}
 use Rattle.prv_cnf.proofs.Values.{same_literal-eq, same_literal_refl, all-has_literal}
 use Rattle.prv_check.specs.Lines.{is_within, no_repeat}
-use Rattle.prv_propagate.specs.Places.{place_of}
+use Rattle.prv_cnf.specs.Places.{place_of}
 use Rattle.prv_propagate.proofs.Signs.{has_literal-push, all-push, same_literal-sym, or_false}
-use Rattle.prv_propagate.proofs.Tabling.{place_of-injective, place_of-bound, within_parts}
+use Rattle.prv_cnf.proofs.Placing.{place_of-injective, place_of-le}
+use Rattle.prv_propagate.proofs.Tabling.{within_parts}
 use Rattle.prv_sat.specs.Marking.{Marking, is_marked, marked_of, AreMarks}
-
-and_none : (b : Bool) → (b && false) ≡ false
-and_none true = refl
-and_none false = refl
 
 -- a literal of a filtered list
 pub filter_has : (q : Lit → Bool) (xs : List Lit) (l : Lit) → has_literal (filter q xs) l ≡ (q l && has_literal xs l)
-filter_has q [] l = sym (and_none (q l))
+filter_has q [] l = sym (and-false (q l))
 filter_has q (x ∷ xs) l = go (filter_has q xs l) (q x) refl (same_literal l x) refl
   where
     go : has_literal (filter q xs) l ≡ (q l && has_literal xs l) → (b : Bool) → q x ≡ b → (s : Bool) → same_literal l x ≡ s → has_literal (cond b (x ∷ filter q xs) (filter q xs)) l ≡ (q l && (same_literal l x || has_literal xs l))
@@ -46,7 +44,7 @@ marked_touched table touched l h = (and_parts (is_marked table l) (has_literal t
 
 -- the place of a literal that was touched, or is of a variable
 pub mark_inside : {n : ℕ} {table : List ℕ} {touched : List Lit} (m : AreMarks n table touched) (l : Lit) → is_within n l ≡ true → place_of l < length table
-mark_inside {n} m l within = omega (arith, m.places, place_of-bound l, within_parts n l within)
+mark_inside {n} m l within = omega (arith, m.places, place_of-le l, within_parts n l within)
 
 pub touched_inside : {n : ℕ} {table : List ℕ} {touched : List Lit} (m : AreMarks n table touched) (l : Lit) → has_literal touched l ≡ true → place_of l < length table
 touched_inside {n} {table} {touched} m l here = mark_inside m l (all-has_literal (is_within n) touched l m.within here)
@@ -172,7 +170,7 @@ no_repeat-filter q [] h = refl
 no_repeat-filter q (x ∷ xs) h =
     let a = and_parts (not (has_literal xs x)) (no_repeat xs) h in
     let later = no_repeat-filter q xs a.1 in
-    let none : has_literal (filter q xs) x ≡ false = filter_has q xs x ∙ ap (λ b. q x && b) (not-true (has_literal xs x) a.0) ∙ and_none (q x) in
+    let none : has_literal (filter q xs) x ≡ false = filter_has q xs x ∙ ap (λ b. q x && b) (not-true (has_literal xs x) a.0) ∙ and-false (q x) in
     go (q x) later none
   where
     go : (b : Bool) → no_repeat (filter q xs) ≡ true → has_literal (filter q xs) x ≡ false → no_repeat (cond b (x ∷ filter q xs) (filter q xs)) ≡ true

@@ -5,7 +5,7 @@ use Rattle.prv_cnf.specs.declared.literal.Lit.{Lit}
 use Rattle.prv_cnf.specs.declared.formula.TheConstants.{MAX_VARS}
 use Rattle.prv_cnf.specs.Literals.{negate, same_literal, has_literal}
 use Rattle.prv_check.specs.Lines.{is_within, no_repeat}
-use Rattle.prv_propagate.specs.Places.{place_of}
+use Rattle.prv_cnf.specs.Places.{place_of}
 
 -- how many variables there are, and the marked literals
 pub record Marking : Type 0 where
@@ -23,7 +23,7 @@ marked_of table touched = filter (is_marked table) touched
 -- the table has another mark than 0 exactly for the literals of the list, which has none twice
 pub record AreMarks (n : ℕ) (table : List ℕ) (touched : List Lit) : Type 0 where
   pub small : n ≤ MAX_VARS
-  pub places : length table ≡ 2 * n + 2
+  pub places : length table ≡ 2 * n + 1
   pub marks : (l : Lit) → nat_eq (slice_index_or table (place_of l) 0) 0 ≡ not (has_literal touched l)
   pub within : list_all (is_within n) touched ≡ true
   pub once : no_repeat touched ≡ true

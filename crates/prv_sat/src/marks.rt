@@ -8,7 +8,6 @@ ghost use Rattle.prv_sat.specs.Analyses.{IsPartOf};
 ghost use Rattle.prv_sat.specs.Marking.{Marking, marked_of};
 
 use prv_cnf::{Lit, MAX_VARS};
-use prv_propagate::{negated_place, place};
 use std::alloc::{AllocError, Global};
 use std::marker::Model;
 
@@ -51,7 +50,7 @@ impl Marks {
     {
         Ok(Marks {
             vars,
-            table: vec![in alloc; FREE; 2 * vars as usize + 2]?,
+            table: vec![in alloc; FREE; 2 * vars as usize + 1]?,
             touched: Vec::new(alloc),
         })
     }
@@ -68,7 +67,7 @@ impl Marks {
     pub fn has(&self, lit: Lit) -> bool
         ensures { result ≡ has_literal self.now.marked lit }
     {
-        is_at(self.table.as_slice(), place(lit), MARKED)
+        is_at(self.table.as_slice(), lit.place(), MARKED)
     }
 
     /// Whether the literal's negation is marked.
@@ -76,7 +75,7 @@ impl Marks {
     pub fn has_negation(&self, lit: Lit) -> bool
         ensures { result ≡ has_literal self.now.marked (negate lit) }
     {
-        is_at(self.table.as_slice(), negated_place(lit), MARKED)
+        is_at(self.table.as_slice(), lit.negated_place(), MARKED)
     }
 
     /// Marks a literal, and answers whether it was not marked.
@@ -85,13 +84,13 @@ impl Marks {
         ensures marked { OnOk result ((x : Lit) → has_literal self.new.marked x ≡ (has_literal self.old.marked x || same_literal x lit)) }
         ensures vars { OnOk result (self.new.vars ≡ self.old.vars) }
     {
-        if is_at(self.table.as_slice(), place(lit), FREE) {
+        if is_at(self.table.as_slice(), lit.place(), FREE) {
             self.touched.push(lit)?;
-            self.table[place(lit)] = MARKED;
+            self.table[lit.place()] = MARKED;
             return Ok(true);
         }
-        let gone = is_at(self.table.as_slice(), place(lit), GONE);
-        self.table[place(lit)] = MARKED;
+        let gone = is_at(self.table.as_slice(), lit.place(), GONE);
+        self.table[lit.place()] = MARKED;
         Ok(gone)
     }
 
@@ -101,7 +100,7 @@ impl Marks {
         ensures marked { (x : Lit) → has_literal self.new.marked x ≡ (has_literal self.old.marked x && not (same_literal x lit)) }
         ensures vars { self.new.vars ≡ self.old.vars }
     {
-        self.table[place(lit)] = GONE;
+        self.table[lit.place()] = GONE;
     }
 
     /// The negations of the marked literals, none of which is marked twice, in the order in which they
@@ -124,7 +123,7 @@ impl Marks {
         ensures { self.new ≡ record self.old { marked = [] } }
     {
         while let Some(lit) = self.touched.pop() {
-            self.table[place(lit)] = FREE;
+            self.table[lit.place()] = FREE;
         }
     }
 }
@@ -150,7 +149,7 @@ fn negations_of(
 {
     let mut lits = Vec::new(alloc);
     for lit in touched {
-        if is_at(table, place(*lit), MARKED) {
+        if is_at(table, lit.place(), MARKED) {
             lits.push(lit.negated())?;
         }
     }

@@ -1,6 +1,6 @@
 //! The solver: it searches to the next conflict, learns a clause from it, jumps back, and goes on, until
 //! it has a model, a refutation, or no budget.
-ghost use Rattle.std.specs.Prelude.{◌≡◌, ℕ, ◌+◌, ◌^◌, ◌<◌, ◌≤◌, ◌*◌, ◌++◌, ◌∷◌, [], length, replicate, Some, IfOk, OnOk, MatchOption};
+ghost use Rattle.std.specs.Prelude.{◌≡◌, ℕ, ◌+◌, ◌^◌, ◌<◌, ◌≤◌, ◌*◌, ◌++◌, ◌∷◌, [], length, replicate, slice_index_or, Some, IfOk, IfSome, OnOk, MatchOption};
 ghost use Rattle.prv_check.specs.LogLines.{line_numbers};
 ghost use Rattle.prv_check.specs.Spending.{AreLearnt, log_numbers};
 ghost use Rattle.prv_propagate.specs.Loading.{IsLoaded};
@@ -17,7 +17,7 @@ use crate::order::Order;
 use crate::restart::Restarts;
 use crate::search::{Outcome, State, search};
 use prv_check::{Line, Log};
-use prv_cnf::{Cnf, Lit};
+use prv_cnf::{Clause, Cnf, Lit};
 use prv_propagate::{Trail, Watches, load};
 use std::alloc::{AllocError, Global};
 use std::mem;
@@ -49,8 +49,32 @@ pub fn solve_from(
     ensures found { IfOk result (IsFound cnf.now lines numbers) }
     ensures ample { IfOk result (λ found. IsAmple cnf.now lines numbers → IsDecided found) }
 {
-    let found = run(alloc, cnf, lines, numbers, inputs)?;
+    let found = answer(alloc, cnf, lines, numbers, inputs)?;
     Ok(found)
+}
+
+/// Answers at once where the formula has a clause without literals, and else runs the solver.
+fn answer(
+    alloc: Global,
+    cnf: &Cnf,
+    lines: u32,
+    numbers: u32,
+    inputs: u32,
+) -> Result<Found, AllocError>
+    requires some { 0 < lines }
+    requires few { length cnf.now.clauses + lines < 2 ^ 32 }
+    ensures { IfOk result (IsFound cnf.now lines numbers) }
+{
+    match first_empty(cnf) {
+        Some(number) => {
+            let found = refute_by(alloc, cnf, number)?;
+            Ok(found)
+        }
+        None => {
+            let found = run(alloc, cnf, lines, numbers, inputs)?;
+            Ok(found)
+        }
+    }
 }
 
 /// Loads the formula, and learns a line from each conflict until something is found.
@@ -76,6 +100,53 @@ fn run(alloc: Global, cnf: &Cnf, lines: u32, numbers: u32, inputs: u32) -> Resul
     })
 }
 
+/// The number of the first clause without literals, if there is one.
+fn first_empty(cnf: &Cnf) -> Option<u32>
+    requires { length cnf.now.clauses < 2 ^ 32 }
+    ensures inside { IfSome result (λ n. n < length cnf.now.clauses) }
+    ensures empty { IfSome result (λ n. slice_index_or cnf.now.clauses n [] ≡ []) }
+{
+    let clauses = cnf.clauses();
+    for number in 0..clauses.len() {
+        if clauses[number].lits().is_empty() {
+            return Some(number as u32);
+        }
+    }
+    None
+}
+
+/// The refutation of a formula by a clause without literals, which is its only hint.
+fn refute_by(alloc: Global, cnf: &Cnf, number: u32) -> Result<Found, AllocError>
+    requires inside { number < length cnf.now.clauses }
+    requires empty { slice_index_or cnf.now.clauses number [] ≡ [] }
+    ensures { IfOk result (λ found. (lines numbers : ℕ) → 0 < lines → IsFound cnf.now lines numbers found) }
+{
+    // The formula is named by the clauses alone.
+    let _ = cnf;
+    let line = empty_line(alloc, number)?;
+    let log = log_of(alloc, line)?;
+    Ok(Found::Refuted(log))
+}
+
+/// The line without literals that has this hint alone.
+fn empty_line(alloc: Global, hint: u32) -> Result<Line, AllocError>
+    ensures { IfOk result (λ line. line ≡ record { clause = []; hints = hint ∷ [] }) }
+{
+    let mut hints = Vec::new(alloc);
+    hints.push(hint)?;
+    let clause = Clause::new(alloc, &[])?;
+    Ok(Line::new(clause, hints))
+}
+
+/// The log of this line alone.
+fn log_of(alloc: Global, line: Line) -> Result<Log, AllocError>
+    ensures { IfOk result (λ log. log ≡ line ∷ []) }
+{
+    let mut lines = Vec::new(alloc);
+    lines.push(line)?;
+    Ok(Log::new(lines))
+}
+
 /// All that the solver keeps.
 #[derive(Drop)]
 struct Solver {
@@ -96,7 +167,7 @@ struct Solver {
 /// The solver of a formula of which no clause was loaded.
 fn begin(alloc: Global, cnf: &Cnf, inputs: u32) -> Result<Solver, AllocError>
     ensures trail { IfOk result (λ s. s.state.trail ≡ record { vars = cnf.now.vars; steps = [] }) }
-    ensures watches { IfOk result (λ s. s.state.watches ≡ record { pairs = []; lists = replicate (2 * cnf.now.vars + 2) [] }) }
+    ensures watches { IfOk result (λ s. s.state.watches ≡ record { pairs = []; lists = replicate (2 * cnf.now.vars + 1) [] }) }
     ensures lines { IfOk result (λ s. s.state.lines.items ≡ []) }
     ensures done { IfOk result (λ s. s.state.done ≡ 0) }
     ensures marks { IfOk result (λ s. s.marks ≡ record { vars = cnf.now.vars; marked = [] }) }

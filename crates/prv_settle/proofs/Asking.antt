@@ -1,7 +1,8 @@
 -- What the solver's answers say of a condition.
-use Rattle.std.proofs.Common.{◌≡◌, ◌≢◌, ◌↔◌, ℕ, zero, suc, ◌+◌, ◌-◌, ◌<◌, ◌≤◌, ◌++◌, ◌∷◌, [], Bool, true, false, nat_lt, List, length, Option, Some, None, MatchOption, Result, Ok, Err, IfOk, ℤ, pos, All, drop, replicate, map, refl, sym, ap, ◌∙◌, subst, arith, add-one, append_assoc}
-use Rattle.std.proofs.lemmas.List.{length-append, length-replicate}
+use Rattle.std.proofs.Common.{◌≡◌, ◌≢◌, ◌↔◌, ℕ, zero, suc, ◌+◌, ◌-◌, ◌<◌, ◌≤◌, ◌++◌, ◌∷◌, [], Bool, true, false, nat_lt, List, length, Option, Some, None, IfSome, MatchOption, Result, Ok, Err, IfOk, ℤ, pos, All, drop, replicate, map, refl, sym, ap, ◌∙◌, subst, arith, append_assoc}
+use Rattle.std.proofs.lemmas.List.{length-append, length-replicate, replicate-append-replicate}
 use Rattle.std.proofs.lemmas.List.FromFn.{length-map-range_with_len}
+use Rattle.std.proofs.Math.Seq.{drop-append_seam}
 use Rattle.prv_bits.specs.Numbers.{word}
 use Rattle.prv_model.specs.Boards.{IsInput}
 use Rattle.prv_model.specs.Terms.{IsTerm, holds}
@@ -80,17 +81,9 @@ all-eight n condition le h = recursive-all (IsTerm 8) condition (all-wider n 8 l
 -- ---- inputs that are made word by word
 
 pub replicate-more : (k : ℕ) (w : ℤ) → replicate (k + 1) w ≡ replicate k w ++ w ∷ []
-replicate-more k w = ap (λ (m : ℕ). replicate m w) (add-one k) ∙ by k
-  where
-    by : (m : ℕ) → replicate (suc m) w ≡ replicate m w ++ w ∷ []
-    by zero = refl
-    by (suc m) = ap (λ (ws : List ℤ). w ∷ ws) (by m)
+replicate-more k w = sym (replicate-append-replicate k 1 w)
 
 -- ---- values
-
-drop-front : (x y : List ℤ) → drop (length x) (x ++ y) ≡ y
-drop-front [] y = refl
-drop-front (w ∷ x) y = drop-front x y
 
 front-alike : (x y : List ℤ) → Alike (length x) x (x ++ y)
 front-alike [] y k below = absurd (omega (arith, below))
@@ -112,7 +105,7 @@ held n lines condition b v x a model is input =
     let alike : Alike m (input_at m v) x = subst (Alike m (input_at m v)) (sym front) (subst (λ (k : ℕ). Alike k (input_at m v) (input_at m v ++ replicate (n - b.params) (pos 0))) (length-input m v) (front-alike (input_at m v) (replicate (n - b.params) (pos 0)))) in
     let inside : holds condition x ≡ true = sym (holds-alike m (input_at m v) x alike condition own) ∙ met in
     let others : drop m x ≡ replicate (n - m) (pos 0) =
-    ap (λ (xs : List ℤ). drop m xs) front ∙ ap (λ (k : ℕ). drop k (input_at m v ++ replicate (n - b.params) (pos 0))) (sym (length-input m v)) ∙ drop-front (input_at m v) (replicate (n - b.params) (pos 0))
+    ap (λ (xs : List ℤ). drop m xs) front ∙ ap (λ (k : ℕ). drop k (input_at m v ++ replicate (n - b.params) (pos 0))) (sym (length-input m v)) ∙ drop-append_seam (input_at m v) (replicate (n - b.params) (pos 0))
     ∙ ap (λ (k : ℕ). replicate (n - k) (pos 0)) a.count in
     record { shown = (input, inside); first = let P : Option (List ℤ) → Type 0 = λ o. MatchOption o (IsSolved n condition x) (λ probe. x ≡ probe) in subst P (sym a.unmet) (record { cheap = a.cheap; others = others }) }
 
@@ -132,12 +125,12 @@ made-more m k v x le is =
 -- ---- spent budgets
 
 pub spent : (n lines : ℕ) (condition : List Term) (b : Blasted) (log : List LogLine) (next : Option LogLine) (why : Reason) → IsAsked n condition b → 1 ≤ lines → lines ≤ 50000 → IsSpent b.cnf log next lines 1000000 →
-    MatchOption next (why ≡ r.Lines lines) (λ _. why ≡ r.Numbers (length log)) → IsSearched n lines condition (Undecided why (p.Spent log next))
-spent n lines condition b log None why a some budget h is =
+    IfSome next (λ s. length log < lines) → MatchOption next (why ≡ r.Lines lines) (λ _. why ≡ r.Numbers (length log)) → IsSearched n lines condition (Undecided why (p.Spent log next))
+spent n lines condition b log None why a some budget h few is =
     let P : Reason → Type 0 = λ w. IsSearched n lines condition (Undecided w (p.Spent log None)) in
     let made = subst (λ (f : Formula). IsSpent f log None lines 1000000) a.formula_of h in
     subst P (sym is) (record { shown = (a.unmet, (some, budget, a.cheap, made)); first = refl })
-spent n lines condition b log (Some s) why a some budget h is =
+spent n lines condition b log (Some s) why a some budget h few is =
     let P : Reason → Type 0 = λ w. IsSearched n lines condition (Undecided w (p.Spent log (Some s))) in
     let made = subst (λ (f : Formula). IsSpent f log (Some s) lines 1000000) a.formula_of h in
-    subst P (sym is) (record { shown = (a.unmet, (refl, a.cheap, record { learnt = made.learnt; within = made.within; reached = made.reached })); first = tt })
+    subst P (sym is) (record { shown = (a.unmet, (refl, a.cheap, record { learnt = made.learnt; within = made.within; reached = made.reached })); first = few })

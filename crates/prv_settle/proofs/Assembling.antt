@@ -1,5 +1,6 @@
 -- The parts that are made are those of the shape.
 use Rattle.std.proofs.Common.{◌≡◌, ℕ, Bool, true, false, not, List, [], ◌∷◌, ◌++◌, length, map, take, drop, ℤ, if◌then◌else◌, refl, sym, ap, ◌∙◌}
+use Rattle.std.proofs.Math.Seq.{take-append_seam, drop-append_seam}
 use Rattle.prv_model.specs.declared.entry.Kind.TheVariants as k
 use Rattle.prv_model.specs.declared.entry.Reason.{Reason}
 use Rattle.prv_model.specs.declared.program.Pair.{Pair}
@@ -14,20 +15,12 @@ use Rattle.prv_record.specs.declared.raw.RawOther.TheVariants as o
 use Rattle.prv_settle.specs.Making.{claimed, second_of, parts_from}
 use Rattle.prv_settle.specs.Supported.{other_of}
 
-take-own : (us ps : List Term) → take (length us) (us ++ ps) ≡ us
-take-own [] ps = refl
-take-own (u ∷ us) ps = ap (λ (rest : List Term). u ∷ rest) (take-own us ps)
-
-drop-own : (us ps : List Term) → drop (length us) (us ++ ps) ≡ ps
-drop-own [] ps = refl
-drop-own (u ∷ us) ps = drop-own us ps
-
 -- the rests of a partition
 rests-are : (pair : Pair) (region : List Term) (t : List ℤ) (n : ℕ) (whole : List Term) → n ≡ length region → whole ≡ partition pair region t →
     map (unmarked k.Unexplored) (rests (take n whole) (drop n whole)) ≡ open_rests pair region t
 rests-are pair region t n whole long is =
     (λ i. map (unmarked k.Unexplored) (rests (take (long i) (is i)) (drop (long i) (is i))))
-    ∙ (λ i. map (unmarked k.Unexplored) (rests (take-own region (pair_literals pair region t) i) (drop-own region (pair_literals pair region t) i)))
+    ∙ (λ i. map (unmarked k.Unexplored) (rests (take-append_seam region (pair_literals pair region t) i) (drop-append_seam region (pair_literals pair region t) i)))
 
 pub beyond-parts : (pair : Pair) (region : List Term) (t : List ℤ) (n : ℕ) (whole : List Term) (marks : List ℕ) (other : Other) (why : Reason) → n ≡ length region → whole ≡ partition pair region t → marks ≡ pair_marks pair t →
     parts_from n whole (record { region = whole; kind = k.Beyond; marks = marks } ∷ []) ≡ parts_of pair region Beyond t other why

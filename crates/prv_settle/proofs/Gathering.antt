@@ -10,6 +10,7 @@ use Rattle.prv_pool.specs.Folding.{negation}
 use Rattle.prv_pool.specs.Tables.{has_term, add_term, add_terms, term_at}
 use Rattle.prv_pool.proofs.NodeLemmas.{get-end, term_at-some}
 use Rattle.prv_pool.proofs.TableLemmas.{has-more}
+use Rattle.prv_sym.proofs.Naming.{add_terms-append}
 use Rattle.prv_blast.specs.Subterms.{subterms}
 use Rattle.prv_blast.proofs.Growing.{add-old, add-grown, term-growth, all-first, all-later, all-append, recursive-all}
 use Rattle.prv_part.specs.Parts.{rests, unmarked}
@@ -21,14 +22,6 @@ use Rattle.prv_settle.specs.Supported.{parts_terms}
 
 abbrev Has : List Term → List Term → Type 0
 Has seen us = AllByRecursion (λ u. has_term seen u ≡ true) us
-
-regions_of : List Part → List Term
-regions_of parts = flat_map (λ p. p.region) parts
-
--- some terms and then more are added in turn
-add-in-turn : (seen us vs : List Term) → add_terms seen (us ++ vs) ≡ add_terms (add_terms seen us) vs
-add-in-turn seen [] vs = refl
-add-in-turn seen (u ∷ us) vs = add-in-turn (add_term u seen) us vs
 
 -- terms that are there add nothing
 add-all-old : (seen us : List Term) → Has seen us → add_terms seen us ≡ seen
@@ -49,7 +42,7 @@ has-after seen t us h =
 
 -- a front that is there, and what follows
 add-past : (seen us vs : List Term) → Has seen us → add_terms seen (us ++ vs) ≡ add_terms seen vs
-add-past seen us vs h = add-in-turn seen us vs ∙ ap (λ (ts : List Term). add_terms ts vs) (add-all-old seen us h)
+add-past seen us vs h = add_terms-append us vs seen ∙ ap (λ (ts : List Term). add_terms ts vs) (add-all-old seen us h)
 
 -- a region with one more term, and what follows
 add-region : (seen us : List Term) (t : Term) (vs : List Term) → Has seen us → add_terms seen ((us ++ t ∷ []) ++ vs) ≡ add_terms (add_term t seen) vs
@@ -87,15 +80,15 @@ module _ (region : ℕ) (whole : List Term) where
   pub whole-terms : (kind : Kind) (marks : List ℕ) →
       subterms (with_negations region whole []) ≡ parts_terms (parts_from region whole (record { region = whole; kind = kind; marks = marks } ∷ []))
   whole-terms kind marks =
-      add-in-turn [] whole (map negation literals)
+      add_terms-append whole (map negation literals) []
       ∙ sym (rests-add here literals (subterms whole) has-here has-literals)
-      ∙ sym (add-in-turn [] whole (flat_map (λ q. q.region) (map (unmarked k.Unexplored) (rests here literals))))
+      ∙ sym (add_terms-append whole (flat_map (λ q. q.region) (map (unmarked k.Unexplored) (rests here literals))) [])
 
   -- both halves add one term each
   halves : (a b : Term) (vs : List Term) → subterms ((whole ++ a ∷ []) ++ ((whole ++ b ∷ []) ++ vs)) ≡ add_terms (add_term b (add_term a (subterms whole))) vs
   halves a b vs =
       ap (λ (ts : List Term). subterms ts) (append_assoc whole (a ∷ []) ((whole ++ b ∷ []) ++ vs))
-      ∙ add-in-turn [] whole (a ∷ ((whole ++ b ∷ []) ++ vs))
+      ∙ add_terms-append whole (a ∷ ((whole ++ b ∷ []) ++ vs)) []
       ∙ add-region (add_term a (subterms whole)) whole b vs (has-after (subterms whole) a whole has-whole)
 
   pub split-terms : (a b : Term) (first second : Part) → first.region ≡ whole ++ a ∷ [] → second.region ≡ whole ++ b ∷ [] →
@@ -104,7 +97,7 @@ module _ (region : ℕ) (whole : List Term) where
       let s = subterms whole in
       let more = flat_map (λ q. q.region) (map (unmarked k.Unexplored) (rests here literals)) in
       let keep : (us : List Term) → Has s us → Has (add_term b (add_term a s)) us = λ us h. has-after (add_term a s) b us (has-after s a us h) in
-      add-in-turn [] whole (a ∷ b ∷ map negation literals)
+      add_terms-append whole (a ∷ b ∷ map negation literals) []
       ∙ sym (rests-add here literals (add_term b (add_term a s)) (keep here has-here) (keep literals has-literals))
       ∙ sym (halves a b more)
       ∙ sym (λ i. subterms (is i ++ (isq i ++ more)))

@@ -1,5 +1,5 @@
 -- The partition of the runs at an input, and the two halves of it.
-use Rattle.std.proofs.Common.{◌≡◌, ℕ, ◌<◌, ◌≤◌, ◌^◌, Bool, false, ◌||◌, nat_eq, List, [], ◌∷◌, ◌++◌, length, map, Some, Ok, All, ℤ, pos, if◌then◌else◌, refl, sym, ap, ◌∙◌, subst, arith, length-append}
+use Rattle.std.proofs.Common.{◌≡◌, ℕ, ◌+◌, ◌<◌, ◌≤◌, ◌^◌, Bool, false, ◌||◌, nat_eq, List, [], ◌∷◌, ◌++◌, length, map, Some, Ok, All, ℤ, pos, if◌then◌else◌, refl, sym, ap, ◌∙◌, subst, arith, length-append}
 use Rattle.std.proofs.lemmas.List.{length-map, map-append}
 use Rattle.std.specs.List.{list_any}
 use Rattle.prv_model.specs.Terms.{IsTerm}
@@ -10,7 +10,7 @@ use Rattle.prv_model.specs.declared.term.Term.{Term}
 use Rattle.prv_pool.specs.Folding.{is_number, negation}
 use Rattle.prv_pool.specs.Tables.{Table, Makes, term_at, has_term}
 use Rattle.prv_sym.specs.Calls.{StandsFor}
-use Rattle.prv_sym.proofs.Naming.{Grows, grows-on, grown, stands-on, stands-in, stands-at, term-kept, still-in, made-at}
+use Rattle.prv_sym.proofs.Naming.{Grows, grows-on, grown, stands-on, stands-in, stands-at, still-in, made-at}
 use Rattle.prv_select.specs.Choices.{rising}
 use Rattle.prv_general.specs.Answers.{terms_at}
 use Rattle.prv_general.proofs.Standing.{all-long, all-in, all-terms}
@@ -27,13 +27,15 @@ use Rattle.prv_settle.specs.Counts.{has_many_literals}
 use Rattle.prv_settle.specs.Grounds.{is_granted, other_part}
 use Rattle.prv_settle.specs.Halving.{AreHalves}
 use Rattle.prv_settle.specs.Making.{AreNodes, AreRuns, IsCut, claimed, second_of, parts_from}
+use Rattle.prv_settle.specs.Rooms.{HasRoom}
 use Rattle.prv_settle.specs.Settlings.{raw_of}
 use Rattle.prv_settle.specs.Supported.{raw_parts, other_of, reason_of}
 use Rattle.prv_settle.specs.declared.cut.Cut.{Cut}
 use Rattle.prv_settle.specs.declared.halves.Halves.{Halves}
 use Rattle.prv_settle.specs.declared.runs.Runs.{Runs}
-use Rattle.prv_settle.proofs.Nodes.{first-node, other-nodes}
+use Rattle.prv_settle.proofs.NodeLists.{same-terms}
 use Rattle.prv_settle.proofs.OtherParts.{other-part-terms}
+use Rattle.prv_settle.proofs.Rooms.{room-left}
 use Rattle.prv_settle.proofs.Sizes.{few-literals}
 use Rattle.prv_settle.proofs.Assembling.{beyond-parts, whole-parts, split-parts}
 
@@ -76,16 +78,12 @@ cut-long pair region t cut h =
     let long = h.long in
     omega (arith, nodes, terms, all, long)
 
-terms-on : (old new : List Term) → Grows old new → (ns : List ℕ) → AreNodes old ns → terms_at new ns ≡ terms_at old ns
-terms-on old new g [] h = refl
-terms-on old new g (n ∷ ns) h = λ i. term-kept old new n g (first-node old n ns h) i ∷ terms-on old new g ns (other-nodes old n ns h) i
-
 -- a table that has grown has the partition still
 cut-on : (pair : Pair) (region : List Term) (t : List ℤ) (cut : Cut) (table : Table) → Grows cut.pool.terms table.terms → IsCut pair region t cut → IsCut pair region t (record cut { pool = table })
 cut-on pair region t cut table g h = record {
   long = h.long;
   nodes = λ k d below. still-in cut.pool.terms table.terms _ g (h.nodes k d below);
-  partition_is = terms-on cut.pool.terms table.terms g cut.partition.items h.nodes ∙ h.partition_is;
+  partition_is = same-terms cut.pool.terms table.terms cut.partition.items (record { more = g.0; is = g.1 }) h.nodes ∙ h.partition_is;
   marks_are = h.marks_are;
 }
 
@@ -102,9 +100,9 @@ abbrev pub decided_term : List Term → ℕ → Bool → Term
 decided_term terms n agree = if agree then term_at terms n else negation (term_at terms n)
 
 pub halves-are : (pair : Pair) (region : List Term) (t : List ℤ) (cut : Cut) (mid last : Table) (n first second : ℕ) (agree : Bool) → Makes (decided_term cut.pool.terms n agree) cut.pool mid (Ok first) →
-    Makes (negation (term_at mid.terms first)) mid last (Ok second) → IsCut pair region t cut → agree ≡ agree_at pair t → StandsFor cut.pool.terms n (equality (slice_before pair t) (slice_after pair t)) →
+    Makes (negation (term_at mid.terms first)) mid last (Ok second) → HasRoom 4 cut → length mid.terms ≤ length cut.pool.terms + 2 → length last.terms ≤ length mid.terms + 2 → IsCut pair region t cut → agree ≡ agree_at pair t → StandsFor cut.pool.terms n (equality (slice_before pair t) (slice_after pair t)) →
     AreHalves pair region t (record { cut = record cut { pool = last }; first = first; second = second; agree = agree })
-halves-are pair region t cut mid last n first second agree one two h same stands =
+halves-are pair region t cut mid last n first second agree one two room few fewer h same stands =
     let old = cut.pool in
     let make = decided_term old.terms n agree in
     let e : term_at old.terms n ≡ equality (slice_before pair t) (slice_after pair t) = stands-at old.terms n _ stands in
@@ -117,6 +115,7 @@ halves-are pair region t cut mid last n first second agree one two h same stands
       first = stands-on mid.terms last.terms first (decided_equality pair t) later (subst (StandsFor mid.terms first) is one.stands);
       second = subst (StandsFor last.terms second) (ap negation at) two.stands;
       agree = same;
+      room = room-left cut mid last room few fewer one.limit two.limit;
     }
 
 -- what the partition says by itself

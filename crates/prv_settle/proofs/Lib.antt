@@ -6,7 +6,6 @@ pub mod Supporting
 pub mod Asking
 pub mod Nodes
 pub mod Partitioning
-pub mod Cutting
 pub mod Joining
 pub mod Running
 pub mod Assembling
@@ -18,5 +17,8 @@ pub mod NodeLists
 pub mod Rests
 pub mod Equating
 pub mod Gathering
-pub mod Recording
 pub mod Numbers
+pub mod Learning
+pub mod Proving
+pub mod Recording
+pub mod Rooms

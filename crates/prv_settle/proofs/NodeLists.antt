@@ -8,14 +8,13 @@ use Rattle.std.proofs.lemmas.List.Elements.{All-append, All-drop}
 use Rattle.std.proofs.lemmas.List.Folds.{list_any-append}
 use Rattle.prv_model.specs.declared.term.Term.{Term}
 use Rattle.prv_model.specs.declared.term.Term.TheVariants.{Num}
-use Rattle.prv_pool.specs.Copies.{Grown}
 use Rattle.prv_pool.specs.Folding.{negation, is_number}
 use Rattle.prv_pool.specs.Nodes.{node_term, node_number}
 use Rattle.prv_pool.specs.declared.node.Node.{Node}
 use Rattle.prv_pool.specs.declared.node.Node.TheVariants as node
 use Rattle.prv_pool.proofs.AddLemmas.{add-grows}
 use Rattle.prv_pool.proofs.FoldLemmas.{number-at}
-use Rattle.prv_pool.specs.Tables.{Table, IsTable, Makes, has_term, term_at}
+use Rattle.prv_pool.specs.Tables.{Table, IsTable, Makes, Grown, has_term, term_at}
 use Rattle.prv_sym.specs.Calls.{AllStand}
 use Rattle.prv_sym.proofs.Naming.{Grows, term-kept, still-in, there, made-in, made-at}
 use Rattle.prv_general.specs.Answers.{terms_at}
@@ -33,7 +32,7 @@ grows old new g = (g.more, g.is)
 pub still-nodes : (old new : List Term) (ns : List ℕ) → Grown old new → AreNodes old ns → AreNodes new ns
 still-nodes old new ns g h = λ k d below. still-in old new (get_or ns k d) (grows old new g) (h k d below)
 
-same-terms : (old new : List Term) (ns : List ℕ) → Grown old new → AreNodes old ns → terms_at new ns ≡ terms_at old ns
+pub same-terms : (old new : List Term) (ns : List ℕ) → Grown old new → AreNodes old ns → terms_at new ns ≡ terms_at old ns
 same-terms old new [] g h = refl
 same-terms old new (n ∷ ns) g h =
     let here = term-kept old new n (grows old new g) (first-node old n ns h) in
@@ -104,6 +103,9 @@ joined-terms terms a b all is = ap (λ (ns : List ℕ). terms_at terms ns) is �
 -- a list from a number on, cut off at its end
 pub tail-is : (count : ℕ) (ns : List ℕ) → take (length ns - count) (drop count ns) ≡ drop count ns
 tail-is count ns = let long = length-drop count ns in take_all (length ns - count) (drop count ns) (omega (arith, long))
+
+pub tail-long : (count : ℕ) (ns : List ℕ) → length (take (length ns - count) (drop count ns)) ≡ length ns - count
+tail-long count ns = ap (λ (ms : List ℕ). length ms) (tail-is count ns) ∙ length-drop count ns
 
 pub dropped-nodes : (terms : List Term) (ns these : List ℕ) (count : ℕ) → these ≡ drop count ns → AreNodes terms ns → AreNodes terms these
 dropped-nodes terms ns these count is h = subst (λ (ms : List ℕ). AreNodes terms ms) (sym is) (All-drop (λ n. n < length terms) count ns h)

@@ -1,8 +1,6 @@
 -- A board and a record determine the settlement, and what settling an entry gives is supported there.
-use Rattle.std.proofs.Common.{◌≡◌, ℕ, true, List, Some, Option, unwrap_or, sym, ap, ◌∙◌, subst}
+use Rattle.std.proofs.Common.{◌≡◌, ℕ, true, List, Some, Option, unwrap_or, sym, ap, ◌∙◌}
 use Rattle.std.specs.Option.{option_map}
-use Rattle.prv_model.specs.declared.entry.Kind.{Kind}
-use Rattle.prv_model.specs.declared.program.Pair.{Pair}
 use Rattle.prv_model.specs.declared.term.Term.{Term}
 use Rattle.prv_part.specs.declared.part.Part.{Part}
 use Rattle.prv_part.specs.Settlements.{Finding}

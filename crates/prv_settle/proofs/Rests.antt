@@ -1,6 +1,9 @@
 -- The parts of the rests, made one after another from the terms of a partition and the negations behind them.
 use Rattle.std.proofs.Common.{◌≡◌, ℕ, zero, suc, ◌+◌, ◌<◌, ◌≤◌, List, [], ◌∷◌, ◌++◌, length, map, take, get_or, slice_get, Option, Some, unwrap_or, refl, sym, ap, ◌∙◌, arith, append_assoc, append-nil, pos}
-use Rattle.std.proofs.lemmas.List.{map-append, take_all}
+use Rattle.std.specs.Option.{option_map}
+use Rattle.std.proofs.lemmas.List.{map-append, take_all, take_more, take-append-le, get_or-append-add}
+use Rattle.std.proofs.lemmas.Option.{get_or_from_slice_get, slice_get-get_or, slice_get-map, slice_get_within, unwrap_or-slice_get}
+use Rattle.std.proofs.Math.Seq.{take-append-add}
 use Rattle.prv_model.specs.declared.entry.Kind.TheVariants as k
 use Rattle.prv_model.specs.declared.term.Term.{Term}
 use Rattle.prv_model.specs.declared.term.Term.TheVariants.{Num}
@@ -8,46 +11,38 @@ use Rattle.prv_pool.specs.Folding.{negation}
 use Rattle.prv_pool.specs.Tables.{term_at}
 use Rattle.prv_part.specs.Parts.{rests, unmarked}
 use Rattle.prv_part.specs.declared.part.Part.{Part}
-use Rattle.prv_settle.proofs.Cutting.{rest-at, rests-long, take-front}
 
--- what stands at a number of a list
-at-number : {X : Type 0} (xs : List X) (i : ℕ) (d : X) → i < length xs → slice_get xs i ≡ Some (get_or xs i d)
-at-number [] i d below = absurd (omega (arith, below))
-at-number (x ∷ xs) zero d below = refl
-at-number (x ∷ xs) (suc i) d below = at-number xs i d (omega (arith, below))
+rest-at : (us ps : List Term) (i : ℕ) (p : Term) → slice_get ps i ≡ Some p → slice_get (rests us ps) i ≡ Some ((us ++ take i ps) ++ negation p ∷ [])
+rest-at us [] i p at = cc at
+rest-at us (q ∷ ps) zero p at =
+    let same : q ≡ p = ap (λ (o : Option Term). unwrap_or o q) at in
+    ap (λ (t : Term). Some (us ++ negation t ∷ [])) same ∙ ap (λ (front : List Term). Some (front ++ negation p ∷ [])) (sym (append-nil us))
+rest-at us (q ∷ ps) (suc i) p at =
+    rest-at (us ++ q ∷ []) ps i p at ∙ ap (λ (front : List Term). Some (front ++ negation p ∷ [])) (append_assoc us (q ∷ []) (take i ps))
+
+rests-long : (us ps : List Term) → length (rests us ps) ≡ length ps
+rests-long us [] = refl
+rests-long us (p ∷ ps) = ap (λ (n : ℕ). suc n) (rests-long (us ++ p ∷ []) ps)
+
+-- the front of two lists and some of the second
+take-front : (us ps more : List Term) (i : ℕ) → i ≤ length ps → take (length us + i) (us ++ (ps ++ more)) ≡ us ++ take i ps
+take-front us ps more i h = take-append-add us (ps ++ more) i ∙ ap (λ (front : List Term). us ++ front) (take-append-le i ps more h)
 
 take-one : {X : Type 0} (xs : List X) (i : ℕ) (x : X) → slice_get xs i ≡ Some x → take (i + 1) xs ≡ take i xs ++ x ∷ []
-take-one {X = X} xs i x at = let same : i + 1 ≡ suc i = omega arith in ap (λ (n : ℕ). take n xs) same ∙ by xs i at
-  where
-    by : (ys : List X) (j : ℕ) → slice_get ys j ≡ Some x → take (suc j) ys ≡ take j ys ++ x ∷ []
-    by [] j e = cc e
-    by (y ∷ ys) zero e = ap (λ (o : Option X). unwrap_or o y ∷ []) e
-    by (y ∷ ys) (suc j) e = ap (λ (rest : List X). y ∷ rest) (by ys j e)
-
-behind : {X : Type 0} (xs ys : List X) (i : ℕ) → slice_get (xs ++ ys) (length xs + i) ≡ slice_get ys i
-behind [] ys i = let same : 0 + i ≡ i = omega arith in ap (λ (n : ℕ). slice_get ys n) same
-behind (x ∷ xs) ys i =
-    let same : length (x ∷ xs) + i ≡ suc (length xs + i) = omega arith in
-    ap (λ (n : ℕ). slice_get (x ∷ (xs ++ ys)) n) same ∙ behind xs ys i
-
-negated-at : (ps : List Term) (i : ℕ) (p : Term) → slice_get ps i ≡ Some p → slice_get (map negation ps) i ≡ Some (negation p)
-negated-at [] i p at = cc at
-negated-at (q ∷ ps) zero p at = ap (λ (o : Option Term). Some (negation (unwrap_or o q))) at
-negated-at (q ∷ ps) (suc i) p at = negated-at ps i p at
+take-one {X = X} xs i x at = take_more xs i x (slice_get_within xs i x at) ∙ ap (λ (y : X). take i xs ++ y ∷ []) (get_or_from_slice_get xs i x x at)
 
 -- the negation of a literal behind the partition and some more terms
 negation-at : (us ps middle : List Term) (n i : ℕ) (p : Term) → n ≡ length us + length ps + length middle → slice_get ps i ≡ Some p →
     term_at (us ++ (ps ++ (middle ++ map negation ps))) (n + i) ≡ negation p
 negation-at us ps middle n i p is at =
-    let whole = us ++ (ps ++ (middle ++ map negation ps)) in
+    let none = Num (pos 0) in
     let place : n + i ≡ length us + (length ps + (length middle + i)) = omega (arith, is) in
-    let found : slice_get whole (n + i) ≡ Some (negation p) =
-    ap (λ (m : ℕ). slice_get whole m) place
-    ∙ behind us (ps ++ (middle ++ map negation ps)) (length ps + (length middle + i))
-    ∙ behind ps (middle ++ map negation ps) (length middle + i)
-    ∙ behind middle (map negation ps) i
-    ∙ negated-at ps i p at in
-    ap (λ (o : Option Term). unwrap_or o (Num (pos 0))) found
+    ap (λ (m : ℕ). term_at (us ++ (ps ++ (middle ++ map negation ps))) m) place
+    ∙ unwrap_or-slice_get (us ++ (ps ++ (middle ++ map negation ps))) (length us + (length ps + (length middle + i))) none
+    ∙ get_or-append-add us (ps ++ (middle ++ map negation ps)) (length ps + (length middle + i)) none
+    ∙ get_or-append-add ps (middle ++ map negation ps) (length middle + i) none
+    ∙ get_or-append-add middle (map negation ps) i none
+    ∙ get_or_from_slice_get (map negation ps) i (negation p) none (slice_get-map negation ps i ∙ ap (λ (o : Option Term). option_map negation o) at)
 
 -- one rest more
 pub rests-more : (terms us ps middle : List Term) (region negations i : ℕ) (parts before after : List Part) (rest : List Term) → terms ≡ us ++ (ps ++ (middle ++ map negation ps)) → region ≡ length us →
@@ -56,7 +51,7 @@ pub rests-more : (terms us ps middle : List Term) (region negations i : ℕ) (pa
     after ≡ parts ++ map (unmarked k.Unexplored) (take (i + 1) (rests us ps))
 rests-more terms us ps middle region negations i parts before after rest are long behind_is below is was new =
     let p = get_or ps i (Num (pos 0)) in
-    let at = at-number ps i (Num (pos 0)) below in
+    let at = slice_get-get_or ps i (Num (pos 0)) below in
     let whole = us ++ (ps ++ (middle ++ map negation ps)) in
     let front : take (region + i) terms ≡ us ++ take i ps =
     (λ j. take (long j + i) (are j)) ∙ take-front us ps (middle ++ map negation ps) i (omega (arith, below)) in

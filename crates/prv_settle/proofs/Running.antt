@@ -1,12 +1,13 @@
 -- The runs of both versions in one table: which terms were named, and whether they are too many.
 use Rattle.std.proofs.Common.{◌≡◌, ◌<◌, List, ◌++◌, length, Result, Ok, Err, OnOk, OnErr, ℤ, ap, ◌∙◌}
+use Rattle.prv_model.specs.Outcomes.{outcome}
 use Rattle.prv_model.specs.declared.program.Pair.{Pair}
 use Rattle.prv_model.specs.declared.term.Term.{Term}
 use Rattle.prv_pool.specs.Tables.{Table, add_terms}
 use Rattle.prv_pool.specs.declared.error.PoolError.{PoolError}
 use Rattle.prv_pool.specs.declared.error.PoolError.TheVariants.{Wide}
 use Rattle.prv_sym.specs.Calls.{Names, StandsFor}
-use Rattle.prv_sym.proofs.Naming.{Grows, grows-none, grows-on, add_terms-grows, names-then, names-stop}
+use Rattle.prv_sym.proofs.Naming.{Grows, grows-none, grows-on, only-all, only-none, add_terms-grows, names-then, names-stop}
 use Rattle.prv_general.specs.Answers.{IsSlice, terms_at}
 use Rattle.prv_general.specs.Slices as slices
 use Rattle.prv_general.specs.Slices.{slice_named}
@@ -23,10 +24,11 @@ pub copy-names : {A : Type 0} (region : List Term) (old new : Table) (r : Result
     (r ≡ Err Wide → old.max_nodes < length (add_terms old.terms region)) → Names region old new r
 copy-names region old new (Ok x) grows limit same wide =
     let more = add_terms-grows region old.terms in
-    record { grows = grows; kept = (more.0, grows ∙ more.1); limit = limit; wide = wide }
+    record { grows = grows; kept = (more.0, grows ∙ more.1); only = only-all region old.terms new.terms grows; limit = limit; wide = wide }
 copy-names region old new (Err e) grows limit same wide =
     let none = grows-none old.terms in
-    record { grows = tt; kept = (none.0, ap (λ (t : Table). t.terms) same ∙ none.1); limit = limit; wide = wide }
+    let is = ap (λ (t : Table). t.terms) same in
+    record { grows = tt; kept = (none.0, is ∙ none.1); only = only-none region old.terms new.terms is; limit = limit; wide = wide }
 
 -- four calls in turn, up to the first that is refused
 first-refused : {A B : Type 0} (a b c d : List Term) (old new : Table) (e : PoolError) → Names {A = A} a old new (Err e) → Names {A = B} (a ++ (b ++ (c ++ d))) old new (Err e)
@@ -68,12 +70,14 @@ slice-on old new made s g h = record {
 
 pub runs-made : (pair : Pair) (region : List Term) (t : List ℤ) (one two three : List Term) (table : Table) (made : Runs) → Grows one two → Grows two three → Grows three table.terms →
     AreNodes one made.region → terms_at one made.region ≡ region → IsSlice two made.before (slice_before pair t) → IsSlice three made.after (slice_after pair t) →
-    StandsFor table.terms made.equality (equality (slice_before pair t) (slice_after pair t)) → AreRuns pair region t table made
-runs-made pair region t one two three table made g h k nodes are before after same =
+    StandsFor table.terms made.equality (equality (slice_before pair t) (slice_after pair t)) → made.before.outcome ≡ outcome pair.before pair.turns t → made.after.outcome ≡ outcome pair.after pair.turns t → AreRuns pair region t table made
+runs-made pair region t one two three table made g h k nodes are before after same did does =
     let late = grows-on two three table.terms h k in
     record {
       region_is = all-on one table.terms (grows-on one two table.terms g late) made.region region (stand-as one made.region region nodes are);
       before_is = slice-on two table.terms made.before (slice_before pair t) late before;
       after_is = slice-on three table.terms made.after (slice_after pair t) k after;
       equality_is = same;
+      before_outcome = did;
+      after_outcome = does;
     }

@@ -1,14 +1,14 @@
 -- From what one step of settling says of a record to what the step above it says.
 use Rattle.std.proofs.Common.{◌≡◌, ℕ, ◌≤◌, Bool, true, false, ◌||◌, nat_lt, List, length, Option, Some, None, MatchOption, ℤ, refl, sym, subst}
 use Rattle.std.specs.Arc.{arc_value}
-use Rattle.prv_model.specs.Comparison.{is_long}
+use Rattle.prv_model.specs.Comparison.{is_long, outcome_eq}
 use Rattle.prv_model.specs.Programs.{IsProgram}
 use Rattle.prv_model.specs.declared.entry.Reason.{Reason}
 use Rattle.prv_model.specs.declared.entry.Reason.TheVariants as r
 use Rattle.prv_model.specs.declared.program.Pair.{Pair}
 use Rattle.prv_model.specs.declared.term.Term.{Term}
 use Rattle.prv_general.proofs.Standing.{all-long}
-use Rattle.prv_part.specs.Literals.{slice_before, slice_after}
+use Rattle.prv_part.specs.Literals.{slice_before, slice_after, agree_at}
 use Rattle.prv_part.specs.declared.shape.Shape.{Shape}
 use Rattle.prv_part.specs.declared.shape.Shape.TheVariants as s
 use Rattle.prv_check.specs.LogLines.{LogLine}
@@ -139,8 +139,11 @@ many-literals pair region t table made h =
     let b = all-long table.terms made.after.literals (slice_after pair t).literals h.after_is.literals in
     λ i. nat_lt 1024 (a i) || nat_lt 1024 (b i)
 
-pub runs-beyond : (pair : Pair) (region : List Term) (t : List ℤ) (table : Table) (made : Runs) → AreRuns pair region t table made → (is_long made.before.how || is_long made.after.how) ≡ is_beyond pair t
-runs-beyond pair region t table made h = λ i. is_long (h.before_is.how i) || is_long (h.after_is.how i)
+pub runs-beyond : (pair : Pair) (region : List Term) (t : List ℤ) (table : Table) (made : Runs) → AreRuns pair region t table made → (is_long made.before.outcome.how || is_long made.after.outcome.how) ≡ is_beyond pair t
+runs-beyond pair region t table made h = λ i. is_long (h.before_outcome i).how || is_long (h.after_outcome i).how
+
+pub runs-agree : (pair : Pair) (region : List Term) (t : List ℤ) (table : Table) (made : Runs) → AreRuns pair region t table made → outcome_eq made.before.outcome made.after.outcome ≡ agree_at pair t
+runs-agree pair region t table made h = λ i. outcome_eq (h.before_outcome i) (h.after_outcome i)
 
 -- what was found of the runs
 pub none-found : (pair : Pair) (region : List Term) (t : List ℤ) (table : Table) (found : Option Runs) → found ≡ None →

@@ -42,6 +42,7 @@ abbrev pub IsFirst : ℕ → ℕ → List Term → Answer → Type 0
 IsFirst n lines condition (Held x) = MatchOption (first_probe n condition) (IsSolved n condition x) (λ probe. x ≡ probe)
 IsFirst n lines condition (Refuted log) = length log ≤ lines
 IsFirst n lines condition (Undecided (Lines budget) proof) = budget ≡ lines
+IsFirst n lines condition (Undecided (Numbers count) proof) = count < lines
 IsFirst n lines condition (Undecided why proof) = ⊤
 
 pub record IsSearched (n lines : ℕ) (condition : List Term) (answer : Answer) : Type 0 where

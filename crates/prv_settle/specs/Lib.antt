@@ -10,6 +10,7 @@ pub mod Supported
 pub mod Budgets
 pub mod Boards
 pub mod Making
+pub mod Rooms
 pub mod Steps
 pub mod Pairings
 pub mod Halving

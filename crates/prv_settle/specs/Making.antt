@@ -1,12 +1,13 @@
 -- What the calls that settle a region make: the runs at an input, the partition, and the parts.
 use Rattle.std.specs.Prelude.{◌≡◌, ℕ, ◌<◌, nat_eq, Bool, false, not, slice_index_or, List, ◌++◌, length, take, drop, map, ℤ, All, if◌then◌else◌}
 use Rattle.std.specs.List.{list_any}
+use Rattle.prv_model.specs.Outcomes.{outcome}
 use Rattle.prv_model.specs.declared.entry.Kind.{Kind}
 use Rattle.prv_model.specs.declared.entry.Kind.TheVariants as k
 use Rattle.prv_model.specs.declared.program.Pair.{Pair}
 use Rattle.prv_model.specs.declared.term.Term.{Term}
 use Rattle.prv_pool.specs.Folding.{negation}
-use Rattle.prv_pool.specs.Regions.{IsRegion}
+use Rattle.prv_region.specs.Regions.{IsRegion}
 use Rattle.prv_pool.specs.Tables.{Table}
 use Rattle.prv_blast.specs.Subterms.{subterms}
 use Rattle.prv_sym.specs.Calls.{AllStand, StandsFor}
@@ -32,12 +33,14 @@ pub record AreTerms (terms : List Term) (nodes : List ℕ) : Type 0 where
   pub region : IsRegion terms nodes
   pub alone : terms ≡ subterms (terms_at terms nodes)
 
--- the nodes of a table are those of a region, of both slices at an input, and of their equality
+-- the nodes of a table are those of a region, of both slices at an input, and of their equality, and the slices carry what both versions do there
 pub record AreRuns (pair : Pair) (region : List Term) (t : List ℤ) (table : Table) (made : Runs) : Type 0 where
   pub region_is : AllStand table.terms made.region region
   pub before_is : IsSlice table.terms made.before (slice_before pair t)
   pub after_is : IsSlice table.terms made.after (slice_after pair t)
   pub equality_is : StandsFor table.terms made.equality (equality (slice_before pair t) (slice_after pair t))
+  pub before_outcome : made.before.outcome ≡ outcome pair.before pair.turns t
+  pub after_outcome : made.after.outcome ≡ outcome pair.after pair.turns t
 
 -- the nodes of the partition of an input, the region's first, and the marks of both slices
 pub record IsCut (pair : Pair) (region : List Term) (t : List ℤ) (cut : Cut) : Type 0 where

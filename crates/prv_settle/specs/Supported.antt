@@ -9,6 +9,7 @@ use Rattle.prv_check.specs.Spending.{log_numbers}
 use Rattle.prv_part.specs.Parts.{Other, Found, Left, parts_of}
 use Rattle.prv_part.specs.Settlements.{Finding}
 use Rattle.prv_part.specs.declared.part.Part.{Part}
+use Rattle.prv_record.specs.Fields.{HasFields}
 use Rattle.prv_record.specs.Payloads.{payload_length}
 use Rattle.prv_record.specs.declared.raw.Raw.{Raw}
 use Rattle.prv_record.specs.declared.raw.RawOther.{RawOther}
@@ -60,7 +61,8 @@ pub record IsSupported (f : Finding) (raw : Raw) : Type 0 where
   pub grounds : IsRecord (IsShown f.pair.before.params) f.pair f.region raw.entry raw
   pub gives : f ≡ finding_of f.pair f.region raw
 
--- a settlement with its record: the record supports it, and is small enough for a journal
+-- a settlement with its record: the record supports it, has the fields of its shape, and is small enough for a journal
 pub record IsKept (f : Finding) (raw : Raw) : Type 0 where
   pub supported : IsSupported f raw
+  pub fields : HasFields raw
   pub small : payload_length raw ≤ MAX_PAYLOAD

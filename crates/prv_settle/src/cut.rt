@@ -1,13 +1,16 @@
 //! A partition in the pool that it was made in, and the terms of its parts.
-ghost use Rattle.std.specs.Prelude.{◌≡◌, ◌-◌, ◌<◌, ◌≤◌, ◌++◌, ◌∷◌, [], length, IfOk, OnOk};
-ghost use Rattle.prv_pool.specs.Copies.{Grown};
+ghost use Rattle.std.specs.Prelude.{◌≡◌, ◌+◌, ◌-◌, ◌*◌, ◌<◌, ◌≤◌, ◌++◌, ◌∷◌, [], length, IfOk, OnOk};
 ghost use Rattle.prv_pool.specs.Folding.{negation};
-ghost use Rattle.prv_pool.specs.Tables.{term_at};
+ghost use Rattle.prv_pool.specs.Tables.{Grown, term_at};
+ghost use Rattle.prv_region.specs.declared.region.TheConstants.{MAX_REGION_NODES};
 ghost use Rattle.prv_general.specs.Answers.{terms_at};
 ghost use Rattle.prv_settle.specs.Making.{AreNodes, with_negations};
+ghost use Rattle.prv_settle.specs.Rooms.{HasRoom};
 
 use crate::parts::Terms;
-use prv_pool::{Cond, MAX_REGION_NODES, Pool, PoolError, Region};
+use crate::room::negated;
+use prv_pool::Pool;
+use prv_region::{Cond, Region};
 use std::alloc::{AllocError, Global};
 use std::sync::Arc;
 
@@ -34,6 +37,7 @@ impl Cut {
         requires region { self.region ≤ length self.partition.items }
         requires partition { AreNodes self.pool.terms self.partition.items }
         requires more { AreNodes self.pool.terms more.now }
+        requires room { HasRoom 0 self }
         ensures { IfOk result (λ terms. terms ≡ with_negations self.region (terms_at self.pool.terms self.partition.items) (terms_at self.pool.terms more.now)) }
     {
         let Cut {
@@ -42,23 +46,18 @@ impl Cut {
             region,
             marks: _,
         } = self;
-        match all_nodes(alloc, &mut pool, partition.as_slice(), region, more) {
-            Ok(nodes) => terms_of(alloc, pool, nodes),
-            Err(_) => Err(AllocError),
-        }
+        let nodes = all_nodes(alloc, &mut pool, partition.as_slice(), region, more)?;
+        terms_of(alloc, pool, nodes)
     }
 }
 
-/// The terms at some nodes, in a pool of their own.
-///
-/// The pool of a settlement may have no more nodes than that of a region, so it isn't refused here.
+/// The terms at some nodes, in a pool of their own. That of a settlement may have no more nodes than that of a region.
 fn terms_of(alloc: Global, pool: Pool, nodes: Vec<u32>) -> Result<Terms, AllocError>
-    requires { AreNodes pool.terms nodes.items }
+    requires nodes { AreNodes pool.terms nodes.items }
+    requires small { pool.max_nodes ≤ MAX_REGION_NODES }
     ensures { IfOk result (λ terms. terms ≡ terms_at pool.terms nodes.items) }
 {
-    if pool.len() > MAX_REGION_NODES {
-        return Err(AllocError);
-    }
+    let _ = pool.len();
     let pool = Arc::new(alloc, pool)?;
     let nodes = Arc::new(alloc, nodes)?;
     Terms::of(alloc, &Region::new(pool, Cond::new(nodes)))
@@ -71,12 +70,14 @@ fn all_nodes(
     partition: &[u32],
     region: usize,
     more: &[u32],
-) -> Result<Vec<u32>, PoolError>
+) -> Result<Vec<u32>, AllocError>
     requires region { region ≤ length partition.now }
     requires partition { AreNodes pool.old.terms partition.now }
     requires more { AreNodes pool.old.terms more.now }
+    requires room { length pool.old.terms + 2 * (length partition.now - region) ≤ pool.old.max_nodes }
     ensures nodes { IfOk result (λ v. AreNodes pool.new.terms v.items) }
     ensures terms { IfOk result (λ v. terms_at pool.new.terms v.items ≡ with_negations region (terms_at pool.old.terms partition.now) (terms_at pool.old.terms more.now)) }
+    ensures limit { OnOk result (pool.new.max_nodes ≡ pool.old.max_nodes) }
 {
     let mut nodes = joined(alloc, partition, more)?;
     for node in &partition[region..] {
@@ -86,14 +87,17 @@ fn all_nodes(
 }
 
 /// Adds the node of a negation at the end.
-fn add_negation(pool: &mut Pool, nodes: &mut Vec<u32>, node: u32) -> Result<(), PoolError>
+fn add_negation(pool: &mut Pool, nodes: &mut Vec<u32>, node: u32) -> Result<(), AllocError>
     requires nodes { AreNodes pool.old.terms nodes.old.items }
     requires node { node < length pool.old.terms }
+    requires room { length pool.old.terms + 2 ≤ pool.old.max_nodes }
     ensures grows { OnOk result (Grown pool.old.terms pool.new.terms) }
     ensures nodes { OnOk result (AreNodes pool.new.terms nodes.new.items) }
     ensures terms { OnOk result (terms_at pool.new.terms nodes.new.items ≡ terms_at pool.old.terms nodes.old.items ++ negation (term_at pool.old.terms node) ∷ []) }
+    ensures few { OnOk result (length pool.new.terms ≤ length pool.old.terms + 2) }
+    ensures limit { OnOk result (pool.new.max_nodes ≡ pool.old.max_nodes) }
 {
-    let made = pool.not(node)?;
+    let made = negated(pool, node)?;
     push(nodes, made)?;
     Ok(())
 }

@@ -12,6 +12,7 @@ ghost use Rattle.prv_settle.specs.Counts.{is_wide, has_many_literals, is_beyond}
 ghost use Rattle.prv_settle.specs.Grounds.{other_part};
 ghost use Rattle.prv_settle.specs.Halving.{AreHalves};
 ghost use Rattle.prv_settle.specs.Making.{AreRuns, IsCut};
+ghost use Rattle.prv_settle.specs.Rooms.{HasRoom};
 ghost use Rattle.prv_settle.specs.Settlings.{raw_of as the_raw};
 ghost use Rattle.prv_settle.specs.Steps.{IsMember, SettlesAt, IsSettlingAt};
 
@@ -19,14 +20,16 @@ use crate::answer::Answer;
 use crate::cut::Cut;
 use crate::partition::{decided, is_granted, marks_of, partition, with_node};
 use crate::record::{kind_of, seal, split_parts, whole_parts};
+use crate::room::negated;
 use crate::runs::Runs;
 use crate::search::search;
 use crate::settled::Settled;
 use crate::task::{Options, Task};
 use prv_model::Input;
 use prv_part::Shape;
-use prv_pool::{Cond, Pool};
+use prv_pool::Pool;
 use prv_record::{Proof, Raw, RawOther};
+use prv_region::Cond;
 use std::alloc::{AllocError, Global};
 use std::sync::Arc;
 
@@ -71,25 +74,21 @@ pub(crate) fn cut_of(alloc: Global, pool: Pool, runs: &Runs) -> Result<Cut, Allo
     })
 }
 
-/// Cuts a partition in two by the equality of the slices.
+/// Cuts a partition in two by the equality of the slices. Either node may want 0 beside itself.
 pub(crate) fn halve(mut cut: Cut, equality: u32, agree: bool) -> Result<Halves, AllocError>
-    requires { equality < length cut.pool.terms }
+    requires equality { equality < length cut.pool.terms }
+    requires room { HasRoom 4 cut }
     ensures { (pair : ThePair) (region : List Term) (t : List ℤ) → IsCut pair region t cut → agree ≡ agree_at_of pair t →
         StandsFor cut.pool.terms equality (equality_of (slice_before pair t) (slice_after pair t)) → IfOk result (λ halves. AreHalves pair region t halves) }
 {
-    let first = match decided(&mut cut.pool, equality, agree) {
-        Ok(node) => node,
-        Err(_) => return Err(AllocError),
-    };
-    match cut.pool.not(first) {
-        Ok(second) => Ok(Halves {
-            cut,
-            first,
-            second,
-            agree,
-        }),
-        Err(_) => Err(AllocError),
-    }
+    let first = decided(&mut cut.pool, equality, agree)?;
+    let second = negated(&mut cut.pool, first)?;
+    Ok(Halves {
+        cut,
+        first,
+        second,
+        agree,
+    })
 }
 
 /// Settles a region by the halves of a partition that is neither too large nor beyond the bound on turns.

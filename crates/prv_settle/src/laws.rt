@@ -11,12 +11,15 @@ ghost use Rattle.prv_part.specs.Settlements.{Finding, IsSettlement};
 ghost use Rattle.prv_part.specs.declared.part.Part.{Part};
 ghost use Rattle.prv_board.specs.Replays.{Replay, slots};
 ghost use Rattle.prv_board.specs.Slots.{part_at, may_replace};
+ghost use Rattle.prv_record.specs.Fields.{HasFields};
+ghost use Rattle.prv_record.specs.Payloads.{payload_length};
 ghost use Rattle.prv_record.specs.declared.raw.Raw.{Raw};
 ghost use Rattle.prv_settle.specs.Grounds.{IsRefuted, is_granted, other_part};
 ghost use Rattle.prv_settle.specs.Answers.{IsShown};
 ghost use Rattle.prv_settle.specs.Settlings.{IsRecord, IsSettled, IsSettledAt};
 ghost use Rattle.prv_settle.specs.Supported.{IsSupported};
 ghost use Rattle.prv_settle.specs.Boards.{IsSupportedOn};
+ghost use Rattle.prv_settle.specs.declared.limits.TheConstants.{MAX_PAYLOAD};
 
 /// No input meets a condition on at most 8 words whose formula a log refutes.
 pub fn refuted_conditions_have_no_input()
@@ -34,6 +37,13 @@ pub fn granted_partitions_have_no_other_part()
 pub fn supported_settlements_are_true()
     ensures { (f : Finding) (raw : Raw) → AllByRecursion (IsTerm f.pair.before.params) f.region → length f.region ≤ 2 ^ 48 → f.numbers < 2 ^ 62 →
         IsSupported f raw → IsSettlement f }
+{}
+
+/// The record that supports a settlement has the fields of its shape and is small enough for a journal, if its
+/// region's terms are over the pair's parameters.
+pub fn supporting_records_are_small()
+    ensures fields { (f : Finding) (raw : Raw) → AllByRecursion (IsTerm f.pair.before.params) f.region → IsSupported f raw → HasFields raw }
+    ensures small { (f : Finding) (raw : Raw) → AllByRecursion (IsTerm f.pair.before.params) f.region → IsSupported f raw → payload_length raw ≤ MAX_PAYLOAD }
 {}
 
 /// What settling a region may come to, from an input that is searched or at one that is given, is what

@@ -13,6 +13,7 @@ mod partition;
 mod parts;
 mod probe;
 mod record;
+mod room;
 mod runs;
 mod search;
 mod settled;
@@ -23,7 +24,7 @@ pub use error::SettleAtError;
 pub use laws::{
     boards_and_records_determine_settlements, granted_partitions_have_no_other_part,
     open_entries_take_supported_settlements, refuted_conditions_have_no_input,
-    settled_regions_are_supported, supported_settlements_are_true,
+    settled_regions_are_supported, supported_settlements_are_true, supporting_records_are_small,
 };
 pub use limits::{MAX_LINES, MAX_NODES, MAX_NUMBERS, MAX_PAYLOAD};
 pub use settled::Settled;

@@ -4,8 +4,8 @@
 /// The most distinct terms that are made for one settlement.
 pub const MAX_NODES: u32 = 20_000;
 
-/// Room for the negations that only parts need, which aren't counted: two slices have at most so many
-/// literals.
+/// Room for what parts alone need, which isn't counted: the negations of the literals, at most 1,024 of each
+/// slice, and the two nodes that cut a partition; each may want 0 beside itself.
 pub(crate) const MORE_NODES: u32 = 5_000;
 
 /// The most numbers of a log, the last line of one that refutes not counted.

@@ -1,5 +1,5 @@
 //! The partition of an input: the inputs of a region on which both versions run as they do there.
-ghost use Rattle.std.specs.Prelude.{◌≡◌, ℕ, ◌<◌, nat_eq, ◌||◌, false, [], ◌∷◌, ◌++◌, length, filter, slice_index_or, pos, All, IfOk, OnOk, if◌then◌else◌};
+ghost use Rattle.std.specs.Prelude.{◌≡◌, ℕ, ◌+◌, ◌<◌, ◌≤◌, nat_eq, ◌||◌, false, [], ◌∷◌, ◌++◌, length, filter, slice_index_or, pos, All, Ok, IfOk, OnOk, if◌then◌else◌};
 ghost use Rattle.std.specs.List.{list_any};
 ghost use Rattle.prv_pool.specs.Folding.{is_number, negation};
 ghost use Rattle.prv_pool.specs.Tables.{Makes, term_at, has_term};
@@ -9,7 +9,8 @@ ghost use Rattle.prv_part.specs.Literals.{without_repeats};
 ghost use Rattle.prv_select.specs.Choices.{rising};
 ghost use Rattle.prv_settle.specs.Making.{AreNodes, AreMarked};
 
-use prv_pool::{Node, Pool, PoolError};
+use crate::room::negated;
+use prv_pool::{Node, Pool};
 use std::alloc::{AllocError, Global};
 
 /// The nodes of a partition: the region's, and behind them those of the literals that the region hasn't
@@ -93,15 +94,17 @@ pub(crate) fn contains(nodes: &[u32], node: u32) -> bool
 }
 
 /// The node that says that the versions compare as they do at the input: the equality, or its negation.
-pub(crate) fn decided(pool: &mut Pool, equality: u32, agree: bool) -> Result<u32, PoolError>
-    requires { equality < length pool.old.terms }
-    ensures { Makes (if agree then term_at pool.old.terms equality else negation (term_at pool.old.terms equality)) pool.old pool.new result }
+pub(crate) fn decided(pool: &mut Pool, equality: u32, agree: bool) -> Result<u32, AllocError>
+    requires equality { equality < length pool.old.terms }
+    requires room { length pool.old.terms + 2 ≤ pool.old.max_nodes }
+    ensures makes { IfOk result (λ made. Makes (if agree then term_at pool.old.terms equality else negation (term_at pool.old.terms equality)) pool.old pool.new (Ok made)) }
+    ensures few { length pool.new.terms ≤ length pool.old.terms + 2 }
 {
     let _ = pool.len();
     if agree {
         Ok(equality)
     } else {
-        pool.not(equality)
+        negated(pool, equality)
     }
 }
 

@@ -4,7 +4,7 @@ ghost use Rattle.std.specs.Arc.{arc_value};
 ghost use Rattle.prv_model.specs.declared.entry.Kind.TheVariants as k;
 ghost use Rattle.prv_model.specs.declared.term.Term.{Term};
 ghost use Rattle.prv_pool.specs.Folding.{negation};
-ghost use Rattle.prv_pool.specs.Regions.{IsRegion};
+ghost use Rattle.prv_region.specs.Regions.{IsRegion};
 ghost use Rattle.prv_pool.specs.Tables.{term_at};
 ghost use Rattle.prv_blast.specs.Subterms.{subterms};
 ghost use Rattle.prv_part.specs.Parts.{rests, unmarked as unmarked_of};
@@ -12,7 +12,8 @@ ghost use Rattle.prv_part.specs.Parts.{rests, unmarked as unmarked_of};
 use crate::partition::with_node;
 use prv_model::Kind;
 use prv_part::Part;
-use prv_pool::{Cond, MAX_REGION_NODES, Pool, Region};
+use prv_pool::{Pool, PoolError};
+use prv_region::{Cond, MAX_REGION_NODES, Region};
 use sqlite_items::Items;
 use std::alloc::{AllocError, Global};
 use std::marker::Model;
@@ -43,18 +44,20 @@ impl Model for Terms {
 }
 
 impl Terms {
-    /// The terms of a region. They and their subterms stand in the region's pool, so the new one has room.
+    /// The terms of a region. They and their subterms stand in the region's pool, so a new one as large has room.
     pub(crate) fn of(alloc: Global, region: &Region) -> Result<Terms, AllocError>
         ensures { IfOk result (λ terms. terms ≡ region.now) }
     {
         let mut pool = Pool::new(alloc, MAX_REGION_NODES);
-        match pool.copy_region(alloc, region) {
+        let _ = region.parts();
+        match region.copy_into(alloc, &mut pool) {
             Ok(nodes) => {
                 let _ = pool.len();
                 let pool = Arc::new(alloc, pool)?;
                 Ok(Terms { pool, nodes })
             }
-            Err(_) => Err(AllocError),
+            Err(PoolError::Memory) => Err(AllocError),
+            Err(PoolError::Wide) => unreachable!(),
         }
     }
 

@@ -4,7 +4,8 @@ ghost use Rattle.prv_pool.specs.Tables.{term_at};
 ghost use Rattle.prv_settle.specs.Probes.{first_probe as first_probe_of};
 
 use prv_model::Input;
-use prv_pool::{Cond, Pool, Scratch};
+use prv_pool::Pool;
+use prv_region::{Cond, Scratch};
 use std::alloc::{AllocError, Global};
 
 /// The words that the probes are made of.
@@ -21,10 +22,10 @@ pub(crate) fn first_probe(
     ensures { IfOk result (λ found. found ≡ first_probe_of params (map (term_at pool.now.terms) cond.now)) }
 {
     let mut scratch = Scratch::new(alloc);
-    pool.reserve_scratch(&mut scratch)?;
+    scratch.reserve_for(pool)?;
     for word in PROBE_WORDS {
         let input = repeated(alloc, word, params)?;
-        if pool.holds(cond, &input, &mut scratch) {
+        if cond.holds(pool, &input, &mut scratch) {
             return Ok(Some(input));
         }
     }

@@ -1,15 +1,13 @@
 //! Settlements with their records, shape by shape. The record says what was found and by what it is proved; the parts
 //! are made from the nodes of the partition, and the settlement has both.
-ghost use Rattle.std.specs.Prelude.{◌≡◌, ◌+◌, ◌*◌, ◌<◌, ◌≤◌, ◌^◌, ◌∷◌, [], ◌++◌, length, IfOk, IfSome};
+ghost use Rattle.std.specs.Prelude.{◌≡◌, ◌<◌, ◌≤◌, ◌^◌, ◌∷◌, [], ◌++◌, length, IfOk};
 ghost use Rattle.std.specs.Arc.{arc_value};
 ghost use Rattle.prv_pool.specs.Tables.{term_at};
-ghost use Rattle.prv_check.specs.LogLines.{line_numbers};
-ghost use Rattle.prv_check.specs.Spending.{log_numbers as log_numbers_of};
 ghost use Rattle.prv_part.specs.Parts.{unmarked as unmarked_of};
 ghost use Rattle.prv_part.specs.Settlements.{finding, IsSettlement};
-ghost use Rattle.prv_record.specs.Payloads.{proof_length};
 ghost use Rattle.prv_general.specs.Answers.{terms_at};
 ghost use Rattle.prv_settle.specs.Making.{AreNodes, claimed, second_of, parts_from};
+ghost use Rattle.prv_settle.specs.Rooms.{HasRoom};
 ghost use Rattle.prv_settle.specs.Steps.{MaySettle, sealed};
 ghost use Rattle.prv_settle.specs.Supported.{raw_parts, parts_terms, proof_numbers as proof_numbers_of};
 
@@ -18,11 +16,10 @@ use crate::halves::Halves;
 use crate::parts::{Terms, add_rests, decided_part, unmarked};
 use crate::settled::Settled;
 use crate::task::Task;
-use prv_check::{Line, Log};
 use prv_model::{Input, Kind};
 use prv_part::{Part, Settlement, Shape};
-use prv_pool::Region;
 use prv_record::{Proof, Raw, RawOther};
+use prv_region::Region;
 use std::alloc::{AllocError, Global};
 use std::sync::Arc;
 
@@ -36,8 +33,6 @@ pub(crate) struct Parts {
 }
 
 /// The settlement of a region by its record, of these parts.
-///
-/// A proof of too many numbers, which no search gives, is answered as want of memory.
 pub(crate) fn seal(
     alloc: Global,
     task: &Task<'_>,
@@ -50,15 +45,10 @@ pub(crate) fn seal(
     ensures { IfOk result (λ s. s ≡ sealed task.now raw) }
 {
     let Parts { list, terms } = parts;
-    match proof_numbers(&raw.proof) {
-        None => Err(AllocError),
-        Some(numbers) => {
-            let numbers = u64::from(terms) + numbers;
-            let settlement = settlement_of(alloc, task, &raw, list, numbers)?;
-            let settled = Settled::new(alloc, settlement, raw)?;
-            Ok(settled)
-        }
-    }
+    let numbers = proof_numbers(&raw.proof);
+    let settlement = settlement_of(alloc, task, &raw, list, u64::from(terms) + numbers)?;
+    let settled = Settled::new(alloc, settlement, raw)?;
+    Ok(settled)
 }
 
 /// The settlement of the shape that a record names.
@@ -121,6 +111,7 @@ pub(crate) fn only_part(alloc: Global, kind: Kind, region: &Region) -> Result<Pa
 pub(crate) fn whole_parts(alloc: Global, kind: Kind, cut: Cut) -> Result<Parts, AllocError>
     requires region { cut.region ≤ length cut.partition.items }
     requires nodes { AreNodes cut.pool.terms cut.partition.items }
+    requires room { HasRoom 0 cut }
     ensures list { IfOk result (λ parts. parts.list.items ≡ parts_from cut.region (terms_at cut.pool.terms cut.partition.items)
         (record { region = terms_at cut.pool.terms cut.partition.items; kind = kind; marks = cut.marks.items } ∷ [])) }
     ensures terms { IfOk result (λ parts. parts.terms ≡ length (parts_terms parts.list.items)) }
@@ -152,6 +143,7 @@ pub(crate) fn split_parts(
     requires nodes { AreNodes halves.cut.pool.terms halves.cut.partition.items }
     requires first { halves.first < length halves.cut.pool.terms }
     requires second { halves.second < length halves.cut.pool.terms }
+    requires room { HasRoom 0 halves.cut }
     ensures list { let cut = halves.cut in
         IfOk result (λ parts. parts.list.items ≡ parts_from cut.region (terms_at cut.pool.terms cut.partition.items) (
         record { region = terms_at cut.pool.terms cut.partition.items ++ term_at cut.pool.terms halves.first ∷ []; kind = claimed halves.agree member.now; marks = cut.marks.items }
@@ -219,51 +211,15 @@ pub(crate) fn kind_of(alloc: Global, agree: bool, input: &Input) -> Result<Kind,
     })
 }
 
-/// The most numbers of a proof, with the line that would come next: 1,000,000 of the log, and one line
-/// with a literal for each variable and a hint for each clause and line.
-const MOST_NUMBERS: u64 = 4_240_000;
-
-/// The numbers of the log that a proof has. There is no answer where the proof has too many, which no
-/// proof has that a search gives.
-fn proof_numbers(proof: &Proof) -> Option<u64>
-    ensures value { IfSome result (λ n. n ≡ proof_numbers_of proof.now) }
-    ensures few { IfSome result (λ n. (n ≤ MOST_NUMBERS) × (proof_length proof.now ≤ 4 + 4 * MOST_NUMBERS)) }
+/// The numbers of the log that a proof has.
+fn proof_numbers(proof: &Proof) -> u64
+    requires { proof_numbers_of proof.now < 2 ^ 61 }
+    ensures value { result ≡ proof_numbers_of proof.now }
+    ensures bound { result < 2 ^ 61 }
 {
     match proof {
-        Proof::None => Some(0),
-        Proof::Log(log) => log_numbers(log, MOST_NUMBERS),
-        Proof::Spent { log, next } => {
-            let next = match next {
-                None => 0,
-                Some(line) => size_of(line),
-            };
-            if next > MOST_NUMBERS {
-                return None;
-            }
-            log_numbers(log, MOST_NUMBERS - next)
-        }
+        Proof::None => 0,
+        Proof::Log(log) => log.numbers(),
+        Proof::Spent { log, next: _ } => log.numbers(),
     }
-}
-
-/// How many numbers it takes to write a log down, if they are at most so many.
-fn log_numbers(log: &Log, most: u64) -> Option<u64>
-    requires { most < 2 ^ 62 }
-    ensures { IfSome result (λ n. (n ≡ log_numbers_of log.now) × (n ≤ most)) }
-{
-    let mut sum = 0;
-    for line in log.lines() {
-        sum += size_of(line);
-        if sum > most {
-            return None;
-        }
-    }
-    Some(sum)
-}
-
-/// How many numbers it takes to write a line down.
-fn size_of(line: &Line) -> u64
-    ensures value { result ≡ line_numbers line.now }
-    ensures bound { result < 2 ^ 63 }
-{
-    line.clause().lits().len() as u64 + line.hints().len() as u64 + 2
 }

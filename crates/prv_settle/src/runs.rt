@@ -1,9 +1,9 @@
 //! The runs of both versions at an input, as slices over one pool. All terms of a settlement are made here, in one order,
 //! since their count decides whether the settlement is made at all.
-ghost use Rattle.std.specs.Prelude.{◌≡◌, ◌+◌, ◌<◌, ◌||◌, [], nat_lt, true, false, length, IfOk, MatchOption};
+ghost use Rattle.std.specs.Prelude.{◌≡◌, ◌+◌, ◌<◌, ◌≤◌, ◌||◌, [], nat_lt, true, false, length, IfOk, IfSome, MatchOption};
 ghost use Rattle.std.specs.Arc.{arc_value};
 ghost use Rattle.prv_model.specs.Boards.{IsInput};
-ghost use Rattle.prv_model.specs.Comparison.{is_long as is_long_of};
+ghost use Rattle.prv_model.specs.Comparison.{is_long as is_long_of, outcome_eq};
 ghost use Rattle.prv_sym.specs.Calls.{Names};
 ghost use Rattle.prv_settle.specs.Counts.{named, is_wide};
 ghost use Rattle.prv_settle.specs.Making.{AreRuns};
@@ -12,8 +12,9 @@ use crate::equality::equality;
 use crate::limits::{MAX_NODES, MORE_NODES};
 use crate::task::Task;
 use prv_general::{MAX_LITERALS, Slice, slice_at};
-use prv_model::{Ending, Input, Pair};
-use prv_pool::{Cond, Pool, PoolError, Region};
+use prv_model::{Ending, Input, Pair, Verdict, compare};
+use prv_pool::{Pool, PoolError};
+use prv_region::{Cond, Region};
 use std::alloc::{AllocError, Global};
 
 /// The nodes of a region, of the slices of both versions at one of its inputs, and of their equality.
@@ -40,6 +41,7 @@ pub(crate) fn run_both(
     requires input { IsInput (arc_value task.now.pair.now).before.params input.now }
     ensures runs { IfOk result (λ found. MatchOption found (is_wide (arc_value task.now.pair.now) task.now.region.now input.now ≡ true)
         (λ made. (is_wide (arc_value task.now.pair.now) task.now.region.now input.now ≡ false) × AreRuns (arc_value task.now.pair.now) task.now.region.now input.now pool.new made)) }
+    ensures few { IfOk result (λ found. IfSome found (λ _. length pool.new.terms ≤ MAX_NODES)) }
     ensures limit { pool.new.max_nodes ≡ pool.old.max_nodes }
 {
     match make_runs(alloc, task.pair, task.region, input, pool) {
@@ -67,7 +69,7 @@ fn make_runs(
     ensures runs { IfOk result (λ made. AreRuns pair.now region.now input.now pool.new made) }
     ensures names { Names (named pair.now region.now input.now) pool.old pool.new result }
 {
-    let region = pool.copy_region(alloc, region)?;
+    let region = region.copy_into(alloc, pool)?;
     let before = slice_at(alloc, &pair.before, input, pair.turns, pool)?;
     let after = slice_at(alloc, &pair.after, input, pair.turns, pool)?;
     let equality = equality(&before, &after, pool)?;
@@ -89,9 +91,17 @@ impl Runs {
 
     /// Whether a version passes the bound on turns.
     pub(crate) fn is_beyond(&self) -> bool
-        ensures { result ≡ (is_long_of self.now.before.how || is_long_of self.now.after.how) }
+        ensures { result ≡ (is_long_of self.now.before.outcome.how || is_long_of self.now.after.outcome.how) }
     {
-        is_long(self.before.how) || is_long(self.after.how)
+        is_long(self.before.outcome.how) || is_long(self.after.outcome.how)
+    }
+
+    /// Whether both versions have the same outcome, where neither passes the bound on turns.
+    pub(crate) fn agree(&self) -> bool
+        requires { (is_long_of self.now.before.outcome.how || is_long_of self.now.after.outcome.how) ≡ false }
+        ensures { result ≡ outcome_eq self.now.before.outcome self.now.after.outcome }
+    {
+        compare(&self.before.outcome, &self.after.outcome) == Verdict::Same
     }
 }
 

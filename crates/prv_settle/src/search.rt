@@ -18,8 +18,9 @@ use crate::task::Options;
 use prv_blast::{BlastError, Blasted, MAX_CLAUSES, blast};
 use prv_check::{Line, Log};
 use prv_model::{Input, Reason};
-use prv_pool::{Cond, Pool};
+use prv_pool::Pool;
 use prv_record::Proof;
+use prv_region::Cond;
 use prv_sat::{Found, solve_from};
 use std::alloc::{AllocError, Global};
 

@@ -2,6 +2,7 @@
 //! both need not ask again whether they belong together.
 ghost use Rattle.std.specs.Prelude.{◌≡◌, ◌≤◌, IfOk};
 ghost use Rattle.std.specs.Arc.{arc_value};
+ghost use Rattle.prv_record.specs.Fields.{HasFields};
 ghost use Rattle.prv_record.specs.Payloads.{payload_length};
 ghost use Rattle.prv_settle.specs.Supported.{IsSupported, IsKept};
 ghost use Rattle.prv_settle.specs.declared.limits.TheConstants.{MAX_PAYLOAD};
@@ -60,9 +61,10 @@ impl Settled {
         &self.inner
     }
 
-    /// Its record. That it is small enough for a journal is handed out here.
+    /// Its record. That it has the fields of its shape, and is small enough for a journal, is handed out here.
     pub fn raw(&self) -> &Raw
         ensures value { result.now ≡ self.now.raw }
+        ensures fields { HasFields self.now.raw }
         ensures small { payload_length self.now.raw ≤ MAX_PAYLOAD }
     {
         &self.raw
@@ -80,6 +82,7 @@ impl Settled {
         ensures settlement { arc_value result.0 ≡ self.finding }
         ensures raw { result.1 ≡ self.raw }
         ensures supported { IsSupported self.finding self.raw }
+        ensures fields { HasFields self.raw }
         ensures small { payload_length self.raw ≤ MAX_PAYLOAD }
     {
         let Settled { inner, raw } = self;

@@ -1,17 +1,16 @@
 //! Settling the region of an entry. An input of the region is found, both versions are run there, and what the runs
 //! leave open is settled by the two halves of their partition. Each step gives a settlement beside its record.
-ghost use Rattle.std.specs.Prelude.{◌≡◌, ◌≢◌, ◌↔◌, ◌≤◌, ◌^◌, ◌∷◌, [], length, All, Err, IfOk, Some, None, true, false};
+ghost use Rattle.std.specs.Prelude.{◌≡◌, ◌≢◌, ◌↔◌, ◌+◌, ◌≤◌, ◌^◌, ◌∷◌, [], length, All, Err, IfOk, Some, None, true, false};
 ghost use Rattle.std.specs.Arc.{arc_value};
-ghost use Rattle.prv_model.specs.Boards.{IsInput};
 ghost use Rattle.prv_model.specs.Terms.{IsTerm, holds};
 ghost use Rattle.prv_model.specs.declared.entry.Kind.{Kind as TheKind};
-ghost use Rattle.prv_part.specs.Literals.{agree_at as agree_at_of};
 ghost use Rattle.prv_part.specs.Parts.{unmarked};
 ghost use Rattle.prv_board.specs.Slots.{is_claimable_kind, may_replace};
 ghost use Rattle.prv_settle.specs.Answers.{IsSearched};
 ghost use Rattle.prv_settle.specs.Budgets.{HasBudget};
-ghost use Rattle.prv_settle.specs.Counts.{is_wide, has_many_literals, is_beyond};
+ghost use Rattle.prv_settle.specs.Counts.{is_wide, has_many_literals};
 ghost use Rattle.prv_settle.specs.Making.{AreRuns, IsCut};
+ghost use Rattle.prv_settle.specs.Rooms.{HasRoom};
 ghost use Rattle.prv_settle.specs.Settlings.{IsSettled, IsSettledAt, raw_of as the_raw};
 ghost use Rattle.prv_settle.specs.Steps.{IsMember, SettlesAt, MaySettle, sealed, IsSettling, IsSettlingAt};
 ghost use Rattle.prv_settle.specs.Supported.{finding_of, raw_parts};
@@ -26,11 +25,11 @@ use crate::runs::{Runs, run_both};
 use crate::search::search;
 use crate::settled::Settled;
 use crate::task::{Options, Task};
-use prv_model::{Input, Kind, Pair, Reason, Verdict, compare};
+use prv_model::{Input, Kind, Pair, Reason};
 use prv_part::Shape;
-use prv_pool::{Cond, Pool, Region, Scratch};
+use prv_pool::Pool;
 use prv_record::{Proof, Raw, RawOther};
-use prv_run::run;
+use prv_region::{Cond, Region, Scratch};
 use std::alloc::{AllocError, Global};
 use std::sync::Arc;
 
@@ -226,6 +225,8 @@ fn settle_runs(
     requires runs { AreRuns (arc_value task.now.pair.now) task.now.region.now member pool runs.now }
     requires narrow { is_wide (arc_value task.now.pair.now) task.now.region.now member ≡ false }
     requires literals { has_many_literals (arc_value task.now.pair.now) member ≡ false }
+    requires few { length pool.terms ≤ MAX_NODES }
+    requires limit { pool.max_nodes ≡ MAX_NODES + MORE_NODES }
     ensures { IfOk result (IsSettlingAt task.now member) }
 {
     let cut = cut_of(alloc, pool, runs)?;
@@ -233,8 +234,7 @@ fn settle_runs(
         let settled = beyond(alloc, task, member, cut)?;
         return Ok(settled);
     }
-    let agree = agree_at(alloc, task.pair, &member)?;
-    let halves = halve(cut, runs.equality, agree)?;
+    let halves = halve(cut, runs.equality, runs.agree())?;
     let settled = settle_halves(alloc, task, member, halves)?;
     Ok(settled)
 }
@@ -244,6 +244,7 @@ fn beyond(alloc: Global, task: &Task<'_>, member: Input, cut: Cut) -> Result<Set
     requires member { IsMember task.now member }
     requires settled { SettlesAt task.now member (the_raw task.now.entry Shape.Beyond (Some member) RawOther.None Proof.None) }
     requires cut { IsCut (arc_value task.now.pair.now) task.now.region.now member cut }
+    requires room { HasRoom 0 cut }
     ensures { IfOk result (IsSettlingAt task.now member) }
 {
     let parts = whole_parts(alloc, Kind::Beyond, cut)?;
@@ -256,15 +257,4 @@ fn beyond(alloc: Global, task: &Task<'_>, member: Input, cut: Cut) -> Result<Set
     };
     let settled = seal(alloc, task, raw, parts)?;
     Ok(settled)
-}
-
-/// Whether both versions have the same outcome at an input, where neither passes the bound on turns.
-fn agree_at(alloc: Global, pair: &Pair, input: &Input) -> Result<bool, AllocError>
-    requires input { IsInput pair.now.before.params input.now }
-    requires short { is_beyond pair.now input.now ≡ false }
-    ensures { IfOk result (λ yes. yes ≡ agree_at_of pair.now input.now) }
-{
-    let before = run(alloc, &pair.before, input, pair.turns)?;
-    let after = run(alloc, &pair.after, input, pair.turns)?;
-    Ok(compare(&before, &after) == Verdict::Same)
 }

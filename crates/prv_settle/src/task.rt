@@ -7,7 +7,7 @@ ghost use Rattle.prv_settle.specs.Tasks.{IsTask};
 ghost use Rattle.prv_settle.specs.declared.limits.TheConstants.{MAX_LINES};
 
 use prv_model::Pair;
-use prv_pool::Region;
+use prv_region::Region;
 use std::sync::Arc;
 
 /// How a region is settled.

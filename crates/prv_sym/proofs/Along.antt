@@ -17,7 +17,7 @@ use Rattle.prv_sym.specs.Calls.{Names, IsSlot, AreSlots, AllStand, slot_term, te
 use Rattle.prv_sym.specs.Named.{run_named}
 use Rattle.prv_sym.specs.Symbols.{params_from, start_terms}
 use Rattle.prv_sym.specs.Walks.{Own, own, row_at, Walked, with_row, walked, Reached}
-use Rattle.prv_sym.proofs.Naming.{grows-none, refused}
+use Rattle.prv_sym.proofs.Naming.{grows-none, add_terms-grows, refused}
 use Rattle.prv_sym.proofs.Walking.{along, walk-run, walked-append, refused-among}
 
 -- one evaluation more
@@ -51,7 +51,7 @@ reached-start table walk p slots env values safes = record {
 
 -- nothing was named yet, and there was no memory
 pub unnamed : {A : Type 0} (more : List Term) (table : Table) → Names {A = A} more table table (Err Memory)
-unnamed more table = record { grows = tt; kept = grows-none table.terms; limit = refl; wide = λ e. absurd (cc) }
+unnamed more table = record { grows = tt; kept = grows-none table.terms; only = add_terms-grows more table.terms; limit = refl; wide = λ e. absurd (cc) }
 
 -- behind a run
 pub walked-run : (p : Program) (turns : ℕ) (x : List ℤ) (told : List Event) (rows : List (Option Own)) (w : Walked) → told ≡ events (run_of p turns x) → rows ≡ map (λ s. own s) (statements_all p.body) →

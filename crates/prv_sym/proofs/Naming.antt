@@ -49,6 +49,14 @@ pub add_terms-grows : (more terms : List Term) → Grows terms (add_terms terms 
 add_terms-grows [] terms = grows-none terms
 add_terms-grows (t ∷ more) terms = grows-on terms (add_term t terms) _ (add_term-grows t terms) (add_terms-grows more (add_term t terms))
 
+-- a table that got all that is named has nothing else
+pub only-all : (more old new : List Term) → new ≡ add_terms old more → Grows new (add_terms old more)
+only-all more old new is = ([], sym is ∙ sym (append-nil new))
+
+-- a table that got nothing has a beginning of what it was to get
+pub only-none : (more old new : List Term) → new ≡ old → Grows new (add_terms old more)
+only-none more old new is = subst (λ (terms : List Term). Grows terms (add_terms old more)) (sym is) (add_terms-grows more old)
+
 pub add_terms-append : (a b terms : List Term) → add_terms terms (a ++ b) ≡ add_terms (add_terms terms a) b
 add_terms-append [] b terms = refl
 add_terms-append (t ∷ a) b terms = add_terms-append a b (add_term t terms)
@@ -58,31 +66,39 @@ pub names-one : (t : Term) (old new : Table) (r : Result ℕ PoolError) → Make
 names-one t old new (Ok n) m = record {
   grows = m.grows;
   kept = ((add_term-grows t old.terms).0, m.grows ∙ (add_term-grows t old.terms).1);
+  only = only-all (t ∷ []) old.terms new.terms m.grows;
   limit = m.limit;
   wide = λ e. m.wide.0 e;
 }
 names-one t old new (Err e) m = record {
   grows = tt;
   kept = ([], ap (λ (table : Table). table.terms) m.refused ∙ sym (append-nil old.terms));
+  only = only-none (t ∷ []) old.terms new.terms (ap (λ (table : Table). table.terms) m.refused);
   limit = m.limit;
   wide = λ e. m.wide.0 e;
 }
 
+-- what two calls name, after the first was answered
+both-named : {A : Type 0} (a b : List Term) (old mid : Table) (x : A) → Names a old mid (Ok x) → add_terms old.terms (a ++ b) ≡ add_terms mid.terms b
+both-named a b old mid x first = add_terms-append a b old.terms ∙ ap (λ (terms : List Term). add_terms terms b) (sym first.grows)
+
 -- two calls, of which the first was answered
 pub names-then : {A B : Type 0} (a b : List Term) (old mid new : Table) (x : A) (r : Result B PoolError) → Names a old mid (Ok x) → Names b mid new r → Names (a ++ b) old new r
 names-then a b old mid new x (Ok y) first second = record {
-  grows = second.grows ∙ ap (λ (terms : List Term). add_terms terms b) first.grows ∙ sym (add_terms-append a b old.terms);
+  grows = second.grows ∙ sym (both-named a b old mid x first);
   kept = grows-on old.terms mid.terms new.terms first.kept second.kept;
+  only = (second.only.0, both-named a b old mid x first ∙ second.only.1);
   limit = second.limit ∙ first.limit;
   wide = λ e. absurd (cc);
 }
 names-then a b old mid new x (Err e) first second = record {
   grows = tt;
   kept = grows-on old.terms mid.terms new.terms first.kept second.kept;
+  only = (second.only.0, both-named a b old mid x first ∙ second.only.1);
   limit = second.limit ∙ first.limit;
   wide = λ is.
       subst (λ (n : ℕ). n < length (add_terms old.terms (a ++ b))) first.limit
-      (subst (λ (terms : List Term). mid.max_nodes < length terms) (ap (λ (terms : List Term). add_terms terms b) first.grows ∙ sym (add_terms-append a b old.terms)) (second.wide is));
+      (subst (λ (terms : List Term). mid.max_nodes < length terms) (sym (both-named a b old mid x first)) (second.wide is));
 }
 
 wide-is : {B : Type 0} (e : PoolError) (r : Result B PoolError) → r ≡ Err e → r ≡ Err Wide → e ≡ Wide
@@ -93,6 +109,7 @@ pub names-stop : {A B : Type 0} (a b : List Term) (old new : Table) (e : PoolErr
 names-stop a b old new e first = record {
   grows = tt;
   kept = first.kept;
+  only = subst (λ (terms : List Term). Grows new.terms terms) (sym (add_terms-append a b old.terms)) (grows-on new.terms _ _ first.only (add_terms-grows b (add_terms old.terms a)));
   limit = first.limit;
   wide = λ is.
       let more = add_terms-grows b (add_terms old.terms a) in
@@ -183,10 +200,10 @@ four-named t u v w old mid far last new n m k r first second third fourth =
 
 -- the answer of a call that names terms may be another one
 pub answered : {A B : Type 0} (more : List Term) (old new : Table) (x : A) (y : B) → Names more old new (Ok x) → Names more old new (Ok y)
-answered more old new x y n = record { grows = n.grows; kept = n.kept; limit = n.limit; wide = λ e. absurd (cc) }
+answered more old new x y n = record { grows = n.grows; kept = n.kept; only = n.only; limit = n.limit; wide = λ e. absurd (cc) }
 
 pub refused : {A B : Type 0} (more : List Term) (old new : Table) (e : PoolError) → Names {A = A} more old new (Err e) → Names {A = B} more old new (Err e)
-refused more old new e n = record { grows = tt; kept = n.kept; limit = n.limit; wide = λ is. n.wide (ap Err (wide-is e (Err e) refl is)) }
+refused more old new e n = record { grows = tt; kept = n.kept; only = n.only; limit = n.limit; wide = λ is. n.wide (ap Err (wide-is e (Err e) refl is)) }
 
 -- a node that stands for a term stands for an equal one
 pub stands-as : (terms : List Term) (t u : Term) (r : Result ℕ PoolError) → t ≡ u → IfOk r (λ n. StandsFor terms n t) → IfOk r (λ n. StandsFor terms n u)

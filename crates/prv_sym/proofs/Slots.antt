@@ -5,7 +5,7 @@ use Rattle.prv_pool.specs.Tables.{Table, term_at}
 use Rattle.prv_pool.proofs.TableLemmas.{add-there, has-term_at}
 use Rattle.prv_sym.specs.declared.symbol_nodes.Slot.{Slot}
 use Rattle.prv_sym.specs.Calls.{Names, StandsFor, IsSlot, AreSlots, slot_term, terms_of, variable_term}
-use Rattle.prv_sym.proofs.Naming.{Grows, grows-none, term-kept, still-in, there}
+use Rattle.prv_sym.proofs.Naming.{Grows, grows-none, only-all, term-kept, still-in, there}
 
 -- slots and nodes in a table that has grown
 pub slots-kept : (old new : List Term) → Grows old new → (slots : List Slot) → AreSlots old slots → AreSlots new slots
@@ -52,6 +52,7 @@ pub names-known : (table : Table) (n : ℕ) (t : Term) → n < length table.term
 names-known table n t below is = subst (λ (u : Term). Names (u ∷ []) table table (Ok n)) is (record {
   grows = sym (add-there (term_at table.terms n) table.terms (has-term_at table.terms n below));
   kept = grows-none table.terms;
+  only = only-all (term_at table.terms n ∷ []) table.terms table.terms (sym (add-there (term_at table.terms n) table.terms (has-term_at table.terms n below)));
   limit = refl;
   wide = λ e. absurd (cc);
 })

@@ -23,7 +23,7 @@ use Rattle.prv_sym.specs.Named.{named, run_named, run_symbols}
 use Rattle.prv_sym.specs.Symbols.{symbol, after}
 use Rattle.prv_sym.specs.Walks.{Own, node_own, own, row_at, Walked, set_by, slots_by, with_own, with_row, walked, Reached}
 use Rattle.prv_sym.proofs.Slots.{slots-kept, terms-kept, slots-set, terms-set}
-use Rattle.prv_sym.proofs.Naming.{Grows, names-as, stands-on, stands-in, names-then, names-stop, refused, add_terms-append, add_terms-grows}
+use Rattle.prv_sym.proofs.Naming.{Grows, names-as, stands-on, stands-in, names-then, names-stop, refused, add_terms-append, add_terms-grows, only-all}
 
 -- what a statement evaluates, by what it is for
 abbrev own_by : Use → Expr → Own
@@ -170,6 +170,7 @@ pub reached-names : {A : Type 0} (first now : Table) (walk : Walk) (w : Walked) 
 reached-names first now walk w x r = record {
   grows = r.grows;
   kept = ((add_terms-grows w.named first.terms).0, r.grows ∙ (add_terms-grows w.named first.terms).1);
+  only = only-all w.named first.terms now.terms r.grows;
   limit = r.limit;
   wide = λ e. absurd (cc);
 }
@@ -200,4 +201,4 @@ named-on {B = B} first old mid walk w o safe x r names =
     (names-as (named o.expr (terms_of old.terms walk.slots)) (named o.expr w.env) old mid (Ok x) (ap (λ (ts : List Term). named o.expr ts) r.env) names))
   where
     out-of-memory : {A : Type 0} (more : List Term) {x : A} → Names {A = A} more first mid (Ok x) → Names {A = B} more first mid (Err Memory)
-    out-of-memory more n = record { grows = tt; kept = n.kept; limit = n.limit; wide = λ e. absurd (cc) }
+    out-of-memory more n = record { grows = tt; kept = n.kept; only = n.only; limit = n.limit; wide = λ e. absurd (cc) }

@@ -10,10 +10,11 @@ use Rattle.prv_sym.specs.Symbols.{Symbol}
 use Rattle.prv_pool.specs.declared.error.PoolError.TheVariants.{Wide}
 
 -- a call names these terms: the table has grown by them and their subterms, as far as it hadn't got them
--- A refusal leaves the table's terms under their numbers. The table is too small only where it has no room for all of them.
+-- A refusal leaves the table's terms under their numbers, and what the table gained is a beginning of what it would have gained by all of them. It is too small only where it has no room for them.
 pub record Names {A : Type 0} (more : List Term) (old new : Table) (result : Result A PoolError) : Type 0 where
   pub grows : OnOk result (new.terms ≡ add_terms old.terms more)
   pub kept : (made : List Term) × (new.terms ≡ old.terms ++ made)
+  pub only : (rest : List Term) × (add_terms old.terms more ≡ new.terms ++ rest)
   pub limit : new.max_nodes ≡ old.max_nodes
   pub wide : result ≡ Err Wide → old.max_nodes < length (add_terms old.terms more)
 

@@ -9,7 +9,7 @@ ghost use Rattle.prv_text.specs.Entries.{more_text, condition};
 use crate::node::push_node;
 use crate::term::{LITERAL_BYTES, push_literal};
 use prv_model::{Name, Term};
-use prv_pool::Region;
+use prv_region::Region;
 use sqlite_items::Items;
 use std::alloc::AllocError;
 

@@ -5,7 +5,8 @@ use Rattle.prv_cnf.specs.declared.literal.Lit.{Lit}
 use Rattle.prv_cnf.specs.Literals.{has_literal}
 use Rattle.prv_check.specs.declared.index.Entry.{Entry}
 use Rattle.prv_check.specs.Lines.{is_empty}
-use Rattle.prv_check.specs.Inner.Places.{place_of, are_flagged}
+use Rattle.prv_cnf.specs.Places.{place_of}
+use Rattle.prv_check.specs.Inner.Tables.{are_flagged}
 use Rattle.prv_check.specs.Inner.Signatures.{signature}
 
 -- the table of the literals that clauses are looked up for, whether an empty clause was added, and at

@@ -1,7 +1,7 @@
 -- Signatures of clauses: a few bits that tell most clauses which another can't contain.
 use Rattle.std.specs.Prelude.{ℕ, ◌*◌, ◌/◌, ◌%◌, ◌^◌, List, [], ◌∷◌, bit_or}
 use Rattle.prv_cnf.specs.declared.literal.Lit.{Lit}
-use Rattle.prv_check.specs.Inner.Places.{place_of}
+use Rattle.prv_cnf.specs.Places.{place_of}
 
 -- the bit of a literal, by the highest six bits of its hashed place
 abbrev pub literal_bit : Lit → ℕ

@@ -4,7 +4,7 @@ use Rattle.prv_cnf.specs.Formulas.{Formula}
 use Rattle.prv_check.specs.LogLines.{LogLine}
 use Rattle.prv_check.specs.Lines.{known}
 use Rattle.prv_check.specs.declared.spent.Tests.{Tests}
-use Rattle.prv_check.specs.Inner.Places.{AreFlagged}
+use Rattle.prv_check.specs.Inner.Tables.{AreFlagged}
 use Rattle.prv_check.specs.Inner.Indexing.{IsIndex}
 
 -- the tests are at the line after these: the index is of the clauses so far, and the tables have places for the variables and for the clauses

@@ -6,7 +6,7 @@ use Rattle.std.proofs.lemmas.List.{get_or_default}
 use Rattle.prv_cnf.specs.declared.literal.Lit.{Lit}
 use Rattle.prv_check.specs.declared.index.Entry.{Entry}
 use Rattle.prv_check.specs.Lines.{known}
-use Rattle.prv_check.specs.Inner.Places.{place_of}
+use Rattle.prv_cnf.specs.Places.{place_of}
 use Rattle.prv_check.specs.Inner.Indexing.{is_entry}
 use Rattle.prv_check.specs.Freshness.{contains_clause}
 use Rattle.prv_check.proofs.Signing.{contained_signature}

@@ -3,7 +3,7 @@ use Rattle.std.specs.Prelude.{slice_index_or}
 use Rattle.std.specs.List.{list_any}
 use Rattle.prv_cnf.specs.declared.literal.Lit.{Lit}
 use Rattle.prv_check.specs.Lines.{known}
-use Rattle.prv_check.specs.Inner.Places.{place_of}
+use Rattle.prv_cnf.specs.Places.{place_of}
 use Rattle.prv_check.specs.Freshness.{contains_clause}
 use Rattle.prv_check.proofs.containment.contains_indexed.Given as goal
 

@@ -2,7 +2,7 @@ use Rattle.std.proofs.Common.{◌≡◌, false, [], take}
 use Rattle.std.specs.Prelude.{slice_index_or}
 use Rattle.std.specs.List.{list_any}
 use Rattle.prv_check.specs.Lines.{known}
-use Rattle.prv_check.specs.Inner.Places.{are_flagged}
+use Rattle.prv_check.specs.Inner.Tables.{are_flagged}
 use Rattle.prv_check.proofs.containment.some_covered.Given as goal
 
 abbrev pub invariant-loop-entry : goal.invariant-loop-entry

@@ -1,6 +1,7 @@
-use Rattle.std.proofs.Common.{◌≡◌, ℕ, ◌+◌, ◌<◌, ◌||◌, ◌++◌, ◌∷◌, [], Bool, true, false, List, length, take, get_or, refl, sym, ap, subst, ◌∙◌, inl, inr, arith, get_or-set_same, get_or-set_other}
+use Rattle.std.proofs.Common.{◌≡◌, ℕ, ◌+◌, ◌<◌, ◌++◌, ◌∷◌, [], Bool, true, false, List, length, take, get_or, refl, sym, ap, subst, ◌∙◌, inl, inr, arith, get_or-set_same, get_or-set_other}
 use Rattle.std.specs.Prelude.{nat_eq, nat_lt, slice_index_or}
 use Rattle.std.specs.List.{list_any}
+use Rattle.std.proofs.Math.Bool.{or-false, or-true}
 use Rattle.std.proofs.lemmas.Bool.{cases_eq, eq-eqb, ne_eqb, ltb-true}
 use Rattle.std.proofs.lemmas.List.{length-set, length-replicate, take_more, take_all}
 use Rattle.std.proofs.lemmas.List.Folds.{list_any-append}
@@ -17,14 +18,6 @@ loop-hint-init c = (
   rw c.clear.ensures (length-replicate (length c.args.named.now) false),
 )
 
-or_nothing : (b : Bool) → b ≡ (b || (false || false))
-or_nothing true = refl
-or_nothing false = refl
-
-or_all : (b : Bool) → true ≡ (b || (true || false))
-or_all true = refl
-or_all false = refl
-
 pub loop-hint-preserved : goal.loop-hint-preserved
 loop-hint-preserved c =
     let hints : List ℕ = c.args.hints.now in
@@ -40,12 +33,12 @@ loop-hint-preserved c =
     ∙ elim (cases_eq n hint) [
       | inl same ↦
           rw (same, get_or-set_same c.loop-hint.named hint true false room, list_any-append (nat_eq hint) (take i hints) (hint ∷ []), eq-eqb hint hint refl)
-          (or_all (list_any (nat_eq hint) (take i hints)))
+          (sym (or-true (list_any (nat_eq hint) (take i hints))))
       | inr other ↦
           get_or-set_other c.loop-hint.named hint n true false other
           ∙ c.loop-hint.invariant.1 n
           ∙ rw (list_any-append (nat_eq n) (take i hints) (hint ∷ []), ne_eqb n hint other)
-          (or_nothing (list_any (nat_eq n) (take i hints)))
+          (sym (or-false (list_any (nat_eq n) (take i hints))))
     ] in (
       rw more (distinct_more (take i hints) hint c.loop-hint.invariant.0 none),
       λ n. flagged n ∙ ap (λ (xs : List ℕ). list_any (nat_eq n) xs) (sym more),

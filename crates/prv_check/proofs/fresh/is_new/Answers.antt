@@ -1,7 +1,8 @@
 use Rattle.std.proofs.Common.{◌≡◌, ◌<◌, true, length, List, sym, subst, ◌∙◌}
 use Rattle.std.specs.List.{All}
 use Rattle.prv_cnf.specs.declared.literal.Lit.{Lit}
-use Rattle.prv_check.specs.Inner.Places.{place_of, are_flagged}
+use Rattle.prv_cnf.specs.Places.{place_of}
+use Rattle.prv_check.specs.Inner.Tables.{are_flagged}
 use Rattle.prv_check.proofs.Placing.{within_places, all_have_places}
 use Rattle.prv_check.proofs.fresh.is_new.Goals as goal
 

@@ -3,7 +3,7 @@ use Rattle.std.proofs.lemmas.Bool.{cases_lt}
 use Rattle.std.proofs.lemmas.List.{get_or_default}
 use Rattle.prv_cnf.specs.declared.literal.Lit.{Lit}
 use Rattle.prv_check.specs.LogLines.{LogLine}
-use Rattle.prv_check.specs.Inner.Places.{AreFlagged}
+use Rattle.prv_check.specs.Inner.Tables.{AreFlagged}
 use Rattle.prv_check.proofs.Placing.{flagged_kept, flagged_added}
 use Rattle.prv_check.proofs.fresh.occurring.Goals as goal
 

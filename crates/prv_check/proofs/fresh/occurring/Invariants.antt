@@ -1,6 +1,6 @@
 use Rattle.std.proofs.Common.{◌≡◌, ℕ, ◌+◌, ◌*◌, ◌<◌, length, get_or}
 use Rattle.prv_check.specs.LogLines.{LogLine}
-use Rattle.prv_check.specs.Inner.Places.{AreFlagged}
+use Rattle.prv_check.specs.Inner.Tables.{AreFlagged}
 use Rattle.prv_check.proofs.fresh.occurring.Given as goal
 
 abbrev pub invariant-loop-line : goal.invariant-loop-line

@@ -1,6 +1,6 @@
 use Rattle.std.proofs.Common.{◌≡◌, ◌<◌, IfNone, IfSome, [], true, length, take}
 use Rattle.prv_cnf.specs.Literals.{has_literal}
-use Rattle.prv_check.specs.Inner.Places.{place_of}
+use Rattle.prv_cnf.specs.Places.{place_of}
 use Rattle.prv_check.proofs.index.rarest.Given as goal
 
 abbrev pub invariant-loop-lit : goal.invariant-loop-lit

@@ -7,7 +7,8 @@ use Rattle.std.proofs.lemmas.List.{drop_all, length-replicate}
 use Rattle.prv_cnf.specs.declared.literal.Lit.{Lit}
 use Rattle.prv_cnf.specs.Literals.{negate, has_literal}
 use Rattle.prv_check.specs.Lines.{known, clauses_at}
-use Rattle.prv_check.specs.Inner.Places.{place_of, flag}
+use Rattle.prv_cnf.specs.Places.{place_of}
+use Rattle.prv_check.specs.Inner.Tables.{flag}
 use Rattle.prv_check.specs.Freshness.{stands_in, have_use}
 use Rattle.prv_check.proofs.Placing.{nothing_flagged}
 use Rattle.prv_check.proofs.Leaning.{use_step, use_none, stands_step, or_swapped, all_drop}

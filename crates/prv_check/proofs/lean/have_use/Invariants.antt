@@ -1,7 +1,8 @@
 use Rattle.std.proofs.Common.{◌≡◌, ◌<◌, ◌≤◌, drop, length}
 use Rattle.prv_cnf.specs.declared.literal.Lit.{Lit}
 use Rattle.prv_check.specs.Lines.{known, clauses_at}
-use Rattle.prv_check.specs.Inner.Places.{place_of, flag}
+use Rattle.prv_cnf.specs.Places.{place_of}
+use Rattle.prv_check.specs.Inner.Tables.{flag}
 use Rattle.prv_check.specs.Freshness.{stands_in, have_use}
 use Rattle.prv_check.proofs.lean.have_use.Given as goal
 

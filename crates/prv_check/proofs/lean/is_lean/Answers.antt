@@ -4,7 +4,8 @@ use Rattle.prv_cnf.specs.declared.literal.Lit.{Lit}
 use Rattle.prv_cnf.specs.Literals.{negate}
 use Rattle.prv_check.specs.Propagation.{trail_after}
 use Rattle.prv_check.specs.Lines.{known, clauses_at}
-use Rattle.prv_check.specs.Inner.Places.{place_of, flag, are_flagged}
+use Rattle.prv_cnf.specs.Places.{place_of}
+use Rattle.prv_check.specs.Inner.Tables.{flag, are_flagged}
 use Rattle.prv_check.specs.Freshness.{stands_in, have_use}
 use Rattle.prv_check.proofs.Placing.{within_places}
 use Rattle.prv_check.proofs.Leaning.{flagged_stand, lean_parts}

@@ -1,7 +1,7 @@
 use Rattle.std.proofs.Common.{◌≡◌, ◌∙◌, ◌<◌, [], length, get_or, sym, subst, arith, List}
 use Rattle.std.specs.List.{AllByRecursion}
 use Rattle.prv_cnf.specs.declared.literal.Lit.{Lit}
-use Rattle.prv_gate.specs.Occurrences.{place_of}
+use Rattle.prv_cnf.specs.Places.{place_of}
 use Rattle.prv_gate.proofs.Learning.{any_default}
 use Rattle.prv_gate.proofs.Entering.{all-below, entered-next, numbers-more, numbers-rise, places-at, places-kept}
 use Rattle.prv_gate.proofs.propagator.enter.Goals as goal

@@ -1,6 +1,7 @@
 use Rattle.std.proofs.Common.{◌≡◌, ℕ, ◌<◌, false, length}
 use Rattle.std.specs.List.{AllByRecursion}
-use Rattle.prv_gate.specs.Occurrences.{place_of, is_listed, AreEntered}
+use Rattle.prv_cnf.specs.Places.{place_of}
+use Rattle.prv_gate.specs.Occurrences.{is_listed, AreEntered}
 use Rattle.prv_gate.proofs.propagator.enter.Given as goal
 
 abbrev pub invariant-loop-number : goal.invariant-loop-number

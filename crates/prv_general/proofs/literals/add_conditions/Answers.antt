@@ -3,11 +3,26 @@ use Rattle.std.specs.Prelude.{filter}
 use Rattle.std.proofs.lemmas.Result.{err_from_is_err_and}
 use Rattle.prv_model.specs.declared.term.Term.{Term}
 use Rattle.prv_sym.specs.Calls.{AllStand, symbol_at}
-use Rattle.prv_sym.proofs.Naming.{answered, grown, made-at, names-as, names-one}
+use Rattle.prv_sym.proofs.Along.{unnamed}
+use Rattle.prv_sym.proofs.Naming.{answered, grown, made-at, made-in, names-as, names-one, refused}
 use Rattle.prv_general.specs.Slices.{says_something}
 use Rattle.prv_general.proofs.Making.{fault-conditions, fault-names, then-refused}
 use Rattle.prv_general.proofs.Standing.{all-on}
 use Rattle.prv_general.proofs.literals.add_conditions.Goals as goal
+
+pub returns-in_err-add-clause-names : goal.returns-in_err-add-clause-names
+returns-in_err-add-clause-names c =
+    let passed = err_from_is_err_and c.from_residual.result c.from_residual.ensures.1 in
+    rw (passed.1, passed.2) (unnamed _ _)
+
+pub returns-in_err-faults-clause-names : goal.returns-in_err-faults-clause-names
+returns-in_err-faults-clause-names c =
+    let passed = err_from_is_err_and c.from_residual-in_err-faults.result c.from_residual-in_err-faults.ensures.1 in
+    rw (passed.1, passed.2)
+    (names-as _ _ _ _ _ (sym (fault-names c.args.event (symbol_at c.args.pool.now.terms c.args.nodes) c.if-event.false)) (refused _ _ _ _ (names-one _ _ _ _ c.in_err-faults.ensures)))
+
+pub add-requires-else-event : goal.add-requires-else-event
+add-requires-else-event c = made-in _ _ _ _ c.in_ok-faults.ensures
 
 pub returns-in_err-add-2-clause-names : goal.returns-in_err-add-2-clause-names
 returns-in_err-add-2-clause-names c =

@@ -2,10 +2,15 @@ use Rattle.std.proofs.Common.{List, ◌∷◌, [], ◌++◌, ℕ, pos, sym, subs
 use Rattle.std.proofs.lemmas.Result.{err_from_is_err_and}
 use Rattle.prv_model.specs.declared.term.Term.TheVariants.{Num}
 use Rattle.prv_sym.specs.Calls.{AllStand}
-use Rattle.prv_sym.proofs.Naming.{names-one, answered, grown}
+use Rattle.prv_sym.proofs.Naming.{names-one, answered, refused, grown}
 use Rattle.prv_general.proofs.Making.{then-refused}
 use Rattle.prv_general.proofs.Standing.{all-on, all-more}
 use Rattle.prv_general.proofs.outs.add_zero.Goals as goal
+
+pub returns-in_err-zero-clause-names : goal.returns-in_err-zero-clause-names
+returns-in_err-zero-clause-names c =
+    let passed = err_from_is_err_and c.from_residual.result c.from_residual.ensures.1 in
+    rw (passed.1, passed.2) (refused _ _ _ _ (names-one _ _ _ _ c.in_err-zero.ensures))
 
 pub returns-in_err-push-clause-names : goal.returns-in_err-push-clause-names
 returns-in_err-push-clause-names c =

@@ -8,6 +8,9 @@ use Rattle.prv_general.proofs.slice.generalise.Goals as goal
 pub returns-in_err-slice-clause-kept : goal.returns-in_err-slice-clause-kept
 returns-in_err-slice-clause-kept c = c.in_err-slice.ensures.names.kept
 
+pub returns-in_err-slice-clause-only : goal.returns-in_err-slice-clause-only
+returns-in_err-slice-clause-only c = c.in_err-slice.ensures.names.only
+
 pub returns-in_err-slice-clause-limit : goal.returns-in_err-slice-clause-limit
 returns-in_err-slice-clause-limit c = c.in_err-slice.ensures.names.limit
 
@@ -22,6 +25,9 @@ returns-then-len-gt-MAX_LITERALS-clause-counted c = λ many. c.in_ok-slice.ensur
 pub returns-then-len-gt-MAX_LITERALS-clause-kept : goal.returns-then-len-gt-MAX_LITERALS-clause-kept
 returns-then-len-gt-MAX_LITERALS-clause-kept c = c.in_ok-slice.ensures.names.kept
 
+pub returns-then-len-gt-MAX_LITERALS-clause-only : goal.returns-then-len-gt-MAX_LITERALS-clause-only
+returns-then-len-gt-MAX_LITERALS-clause-only c = c.in_ok-slice.ensures.names.only
+
 pub returns-then-len-gt-MAX_LITERALS-clause-limit : goal.returns-then-len-gt-MAX_LITERALS-clause-limit
 returns-then-len-gt-MAX_LITERALS-clause-limit c = c.in_ok-slice.ensures.names.limit
 
@@ -32,6 +38,9 @@ returns-then-len-gt-MAX_LITERALS-clause-literals c = λ many.
 
 pub returns-clause-kept : goal.returns-clause-kept
 returns-clause-kept c = c.in_ok-slice.ensures.names.kept
+
+pub returns-clause-only : goal.returns-clause-only
+returns-clause-only c = c.in_ok-slice.ensures.names.only
 
 pub returns-clause-limit : goal.returns-clause-limit
 returns-clause-limit c = c.in_ok-slice.ensures.names.limit

@@ -8,7 +8,7 @@ use Rattle.prv_propagate.specs.declared.watches.Pair.{Pair}
 use Rattle.prv_propagate.specs.Trails.{Trailing, step_at, IsAssignment}
 use Rattle.prv_propagate.specs.Watching.{attached}
 use Rattle.prv_propagate.specs.Soundness.{IsSound, ArePropagated}
-use Rattle.prv_propagate.proofs.Signs.{variable-negate}
+use Rattle.prv_cnf.proofs.Values.{variable-negate}
 use Rattle.prv_propagate.proofs.Tabling.{within_at, within_parts}
 use Rattle.prv_propagate.proofs.Walking.{list_inside}
 use Rattle.prv_propagate.proofs.Attaching.{line_added, known_push}

@@ -16,5 +16,5 @@ loop-number-init c =
     let few : length f.clauses < 2 ^ 32 = c.requires.few in
     let P : List (List Lit) → Type 0 = λ cs. IsLoading cs 0 t w in
     let within : (k : ℕ) → k < length f.clauses → list_all (is_within t.vars) (clause_of f.clauses k) ≡ true = rw c.requires.vars (formula_within f.vars f.clauses c.clauses-count.ensures.formula.1) in
-    let lists : w.lists ≡ replicate (2 * t.vars + 2) [] = rw c.requires.vars c.requires.lists in
+    let lists : w.lists ≡ replicate (2 * t.vars + 1) [] = rw c.requires.vars c.requires.lists in
     (subst P (sym (append-nil f.clauses)) (loading_none f.clauses t w within few c.requires.steps c.requires.pairs lists), refl)

@@ -6,7 +6,7 @@ use Rattle.prv_cnf.specs.Literals.{same_literal, has_literal}
 use Rattle.prv_cnf.proofs.Values.{all-has_literal, same_literal_refl}
 use Rattle.prv_check.specs.Lines.{known, is_within}
 use Rattle.prv_propagate.specs.declared.trail.Step.{Step}
-use Rattle.prv_propagate.specs.Places.{place_of}
+use Rattle.prv_cnf.specs.Places.{place_of}
 use Rattle.prv_propagate.specs.Trails.{Trailing, trues, IsDecision}
 use Rattle.prv_propagate.specs.Reasons.{clause_of, IsJustified, AreJustified}
 use Rattle.prv_propagate.specs.Guards.{is_pair, is_guarded}
@@ -14,7 +14,8 @@ use Rattle.prv_propagate.specs.Watching.{Watching, attached}
 use Rattle.prv_propagate.specs.Loading.{AreImplied, IsLoading}
 use Rattle.prv_propagate.proofs.Signs.{has_literal-push}
 use Rattle.prv_propagate.proofs.Stepping.{trues_push, EachStep-push}
-use Rattle.prv_propagate.proofs.Tabling.{within_parts, place_of-bound}
+use Rattle.prv_cnf.proofs.Placing.{place_of-le}
+use Rattle.prv_propagate.proofs.Tabling.{within_parts}
 use Rattle.prv_propagate.proofs.Guarding.{pair_parts}
 use Rattle.prv_propagate.proofs.Walking.{within_push}
 use Rattle.prv_propagate.proofs.Attaching.{loading_more, guarded_two, guarded_one, sole_pair, sole_falsified, sole_reason}
@@ -23,7 +24,7 @@ use Rattle.prv_propagate.proofs.loading.load_clause.Goals as goal
 -- the places of the pair of a clause
 place_inside : (cs : List (List Lit)) (n : ℕ) (t : Trailing) (w : Watching) (l : Lit) → IsLoading cs n t w → n < length cs → has_literal (clause_of cs n) l ≡ true → place_of l < length w.lists
 place_inside cs n t w l loading inside has =
-    omega (arith, loading.places, place_of-bound l, within_parts t.vars l (all-has_literal (is_within t.vars) (clause_of cs n) l (loading.within n inside) has))
+    omega (arith, loading.places, place_of-le l, within_parts t.vars l (all-has_literal (is_within t.vars) (clause_of cs n) l (loading.within n inside) has))
 
 pub attach-requires-clause-first : goal.attach-requires-clause-first
 attach-requires-clause-first c =

@@ -13,4 +13,4 @@ invariant-loop-at l = record {
 }
 
 abbrev pub decreases-loop-at : goal.decreases-loop-at
-decreases-loop-at l = 2 * l.trail.vars + 2 - l.at
+decreases-loop-at l = 2 * l.trail.vars + 1 - l.at

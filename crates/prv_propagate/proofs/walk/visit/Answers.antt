@@ -4,14 +4,14 @@ use Rattle.prv_cnf.specs.Literals.{variable, same_literal, has_literal}
 use Rattle.prv_cnf.proofs.Values.{all-has_literal}
 use Rattle.prv_check.specs.Propagation.{is_false}
 use Rattle.prv_check.specs.Lines.{known, is_within}
-use Rattle.prv_propagate.specs.Places.{place_of}
+use Rattle.prv_cnf.specs.Places.{place_of}
 use Rattle.prv_propagate.specs.Trails.{Trailing, trues, step_at, IsAssignment}
 use Rattle.prv_propagate.specs.Reasons.{clause_of, are_others_false}
 use Rattle.prv_propagate.specs.Guards.{pair_of}
 use Rattle.prv_propagate.specs.Watching.{watches_of, watch_at, rewatched}
 use Rattle.prv_propagate.specs.Soundness.{IsOther}
 use Rattle.prv_propagate.specs.Walking.{IsWalk, false_by}
-use Rattle.prv_propagate.proofs.Signs.{variable-negate}
+use Rattle.prv_cnf.proofs.Values.{variable-negate}
 use Rattle.prv_propagate.proofs.Tabling.{within_at, within_parts}
 use Rattle.prv_propagate.proofs.Guarding.{other_in}
 use Rattle.prv_propagate.proofs.Walking.{walk_stale, walk_blocked, walk_free, walk_unit, list_inside, entry_at}

@@ -2,7 +2,7 @@ use Rattle.std.proofs.Common.{◌≡◌, true, sym, ◌∙◌, arith}
 use Rattle.prv_cnf.specs.Literals.{negate}
 use Rattle.prv_check.specs.Propagation.{is_false}
 use Rattle.prv_propagate.specs.Trails.{trues}
-use Rattle.prv_propagate.proofs.Signs.{variable-negate}
+use Rattle.prv_cnf.proofs.Values.{variable-negate}
 use Rattle.prv_propagate.proofs.Tabling.{within_parts}
 use Rattle.prv_sat.specs.Marking.{is_except}
 use Rattle.prv_sat.proofs.Analyzing.{or_second, false_within}

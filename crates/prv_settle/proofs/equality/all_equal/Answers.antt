@@ -1,7 +1,9 @@
-use Rattle.std.proofs.Common.{refl}
+use Rattle.std.proofs.Common.{refl, arith}
+use Rattle.std.proofs.lemmas.List.{length-map}
 use Rattle.std.proofs.lemmas.Result.{err_from_is_err_and}
+use Rattle.prv_pool.specs.Tables.{term_at}
 use Rattle.prv_sym.proofs.Naming.{one-refused, stands-in}
-use Rattle.prv_settle.proofs.Joining.{joined-start}
+use Rattle.prv_settle.proofs.Joining.{joined-start, joined-all}
 use Rattle.prv_settle.proofs.Equating.{pair-at, joined-step, joined-stop}
 use Rattle.prv_settle.proofs.equality.all_equal.Goals as goal
 
@@ -26,3 +28,11 @@ pub loop-k-preserved : goal.loop-k-preserved
 loop-k-preserved c =
     let pair = pair-at c.args.pool.now c.loop-k.pool c.args.before.now c.args.after.now c.loop-k.k c.loop-k.made _ _ c.loop-k.invariant c.requires.same c.requires.before c.requires.after c.loop-k-test.true refl refl in
     joined-step _ _ _ _ _ c.loop-k.k c.loop-k.made _ _ _ c.loop-k.invariant pair c.in_ok-made-2.ensures.stands c.in_ok-made-2.ensures.names
+
+pub returns-clause-stands : goal.returns-clause-stands
+returns-clause-stands c =
+    (joined-all c.args.pool.now c.loop-k.pool _ _ c.loop-k.k c.loop-k.made (omega (arith, length-map c.args.before.now (term_at c.args.pool.now.terms), c.loop-k-test.false)) c.loop-k.invariant).0
+
+pub returns-clause-names : goal.returns-clause-names
+returns-clause-names c =
+    (joined-all c.args.pool.now c.loop-k.pool _ _ c.loop-k.k c.loop-k.made (omega (arith, length-map c.args.before.now (term_at c.args.pool.now.terms), c.loop-k-test.false)) c.loop-k.invariant).1

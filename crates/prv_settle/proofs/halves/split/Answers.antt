@@ -18,6 +18,9 @@ split_parts-requires-clause-first c = stands-in _ _ _ c.requires.halves.first
 pub split_parts-requires-clause-second : goal.split_parts-requires-clause-second
 split_parts-requires-clause-second c = stands-in _ _ _ c.requires.halves.second
 
+pub split_parts-requires-clause-room : goal.split_parts-requires-clause-room
+split_parts-requires-clause-room c = c.requires.halves.room
+
 pub seal-requires-clause-grounds : goal.seal-requires-clause-grounds
 seal-requires-clause-grounds c = may-settle-at c.args.task.now c.args.member s.Split (Some c.args.member) c.args.other c.args.proof c.requires.member c.requires.settled
 

@@ -12,6 +12,9 @@ whole_parts-requires-clause-region c = cut-long _ _ _ _ c.requires.halves.cut
 pub whole_parts-requires-clause-nodes : goal.whole_parts-requires-clause-nodes
 whole_parts-requires-clause-nodes c = c.requires.halves.cut.nodes
 
+pub whole_parts-requires-clause-room : goal.whole_parts-requires-clause-room
+whole_parts-requires-clause-room c = c.requires.halves.room
+
 pub seal-requires-clause-grounds : goal.seal-requires-clause-grounds
 seal-requires-clause-grounds c = may-settle-at c.args.task.now c.args.member s.Whole (Some c.args.member) o.None c.args.proof c.requires.member c.requires.settled
 

@@ -26,4 +26,4 @@ returns-in_ok-input-in-Values c = λ condition a.
 pub returns-in-Spent : goal.returns-in-Spent
 returns-in-Spent c = λ condition a.
     let found = subst (IsFound c.args.blasted.now.cnf c.args.options.lines 1000000) c.in-Spent.is c.in_ok-values.ensures.found in
-    spent c.args.params c.args.options.lines condition c.args.blasted.now c.in-Spent.log c.in-Spent.next c.reason-why.result a c.args.options.some c.args.options.budget found.0 c.reason-why.ensures
+    spent c.args.params c.args.options.lines condition c.args.blasted.now c.in-Spent.log c.in-Spent.next c.reason-why.result a c.args.options.some c.args.options.budget found.0 found.1 c.reason-why.ensures

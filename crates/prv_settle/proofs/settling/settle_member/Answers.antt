@@ -1,5 +1,7 @@
-use Rattle.std.proofs.Common.{sym, ◌∙◌}
+use Rattle.std.proofs.Common.{length, sym, ap, ◌∙◌}
 use Rattle.std.specs.Arc.{arc_value}
+use Rattle.prv_pool.specs.Tables.{Table}
+use Rattle.prv_settle.proofs.Rooms.{some-few}
 use Rattle.prv_settle.proofs.Stepping.{none-found, some-found, wide-settled, literals-settled, many-literals}
 use Rattle.prv_settle.proofs.settling.settle_member.Goals as goal
 
@@ -33,3 +35,9 @@ settle_runs-requires-clause-literals c =
     let pair = arc_value task.pair.now in
     let found = some-found pair task.region.now c.args.member _ _ c.in-Some.runs c.in-Some.is c.in_ok-run_both.ensures.runs in
     sym (many-literals pair task.region.now c.args.member _ c.in-Some.runs found.1) ∙ sym c.has_many_literals.ensures ∙ c.if-has_many_literals.false
+
+pub settle_runs-requires-clause-few : goal.settle_runs-requires-clause-few
+settle_runs-requires-clause-few c = some-few _ c.in-Some.runs (length c.run_both.new.pool.terms) c.in-Some.is c.in_ok-run_both.ensures.few
+
+pub settle_runs-requires-clause-limit : goal.settle_runs-requires-clause-limit
+settle_runs-requires-clause-limit c = c.in_ok-run_both.ensures.limit ∙ ap (λ (t : Table). t.max_nodes) c.new-pool.ensures

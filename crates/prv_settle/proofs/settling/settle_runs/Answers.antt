@@ -1,10 +1,8 @@
-use Rattle.std.proofs.Common.{◌≡◌, false, sym, ap, subst, ◌∙◌}
+use Rattle.std.proofs.Common.{sym, ◌∙◌}
 use Rattle.std.specs.Arc.{arc_value}
-use Rattle.prv_model.specs.declared.program.Pair.{Pair}
-use Rattle.prv_part.specs.Literals.{agree_at}
-use Rattle.prv_settle.specs.Counts.{is_beyond}
-use Rattle.prv_settle.proofs.Stepping.{beyond-settled, runs-beyond}
+use Rattle.prv_settle.proofs.Stepping.{beyond-settled, runs-beyond, runs-agree}
 use Rattle.prv_settle.proofs.Halving.{equality-in, equality-stands}
+use Rattle.prv_settle.proofs.Rooms.{cut-room, room-less}
 use Rattle.prv_settle.proofs.settling.settle_runs.Goals as goal
 
 pub cut_of-requires : goal.cut_of-requires
@@ -24,22 +22,29 @@ beyond-requires-clause-cut c =
     let task = c.args.task.now in
     c.in_ok-cut.ensures.cut (arc_value task.pair.now) task.region.now c.args.member c.requires.runs
 
-pub agree_at-requires-clause-short : goal.agree_at-requires-clause-short
-agree_at-requires-clause-short c =
+pub beyond-requires-clause-room : goal.beyond-requires-clause-room
+beyond-requires-clause-room c =
     let task = c.args.task.now in
-    let Q : Pair → Type 0 = λ q. is_beyond q c.args.member ≡ false in
-    subst Q (sym c.deref.ensures) (sym (runs-beyond (arc_value task.pair.now) task.region.now c.args.member c.args.pool c.args.runs.now c.requires.runs) ∙ sym c.is_beyond.ensures ∙ c.if-is_beyond.false)
+    let pair = arc_value task.pair.now in
+    room-less 4 c.in_ok-cut.cut
+    (cut-room pair task.region.now c.args.member c.args.pool c.in_ok-cut.cut (c.in_ok-cut.ensures.cut pair task.region.now c.args.member c.requires.runs) c.requires.literals c.in_ok-cut.ensures.same c.requires.few c.requires.limit)
 
-pub halve-requires : goal.halve-requires
-halve-requires c =
+pub halve-requires-clause-equality : goal.halve-requires-clause-equality
+halve-requires-clause-equality c =
     let task = c.args.task.now in
     equality-in (arc_value task.pair.now) task.region.now c.args.member c.args.pool _ c.args.runs.now c.requires.runs c.in_ok-cut.ensures.same
+
+pub halve-requires-clause-room : goal.halve-requires-clause-room
+halve-requires-clause-room c =
+    let task = c.args.task.now in
+    let pair = arc_value task.pair.now in
+    cut-room pair task.region.now c.args.member c.args.pool c.in_ok-cut.cut (c.in_ok-cut.ensures.cut pair task.region.now c.args.member c.requires.runs) c.requires.literals c.in_ok-cut.ensures.same c.requires.few c.requires.limit
 
 pub settle_halves-requires-clause-halves : goal.settle_halves-requires-clause-halves
 settle_halves-requires-clause-halves c =
     let task = c.args.task.now in
     let pair = arc_value task.pair.now in
-    c.in_ok-halves.ensures pair task.region.now c.args.member (c.in_ok-cut.ensures.cut pair task.region.now c.args.member c.requires.runs) (c.in_ok-agree.ensures ∙ ap (λ (q : Pair). agree_at q c.args.member) c.deref.ensures)
+    c.in_ok-halves.ensures pair task.region.now c.args.member (c.in_ok-cut.ensures.cut pair task.region.now c.args.member c.requires.runs) (c.agree.ensures ∙ runs-agree pair task.region.now c.args.member c.args.pool c.args.runs.now c.requires.runs)
     (equality-stands pair task.region.now c.args.member c.args.pool _ c.args.runs.now c.requires.runs c.in_ok-cut.ensures.same)
 
 pub settle_halves-requires-clause-short : goal.settle_halves-requires-clause-short

@@ -1,6 +1,7 @@
 use Rattle.std.proofs.Common.{◌≡◌, ◌<◌, length, drop}
 use Rattle.std.specs.List.{AllByRecursion}
-use Rattle.prv_gate.specs.Occurrences.{place_of, with_occurrences}
+use Rattle.prv_cnf.specs.Places.{place_of}
+use Rattle.prv_gate.specs.Occurrences.{with_occurrences}
 use Rattle.prv_gate.proofs.occurrences.Occurrences.enter.Given as goal
 
 abbrev pub invariant-loop-lit : goal.invariant-loop-lit

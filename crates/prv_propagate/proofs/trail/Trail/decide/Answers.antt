@@ -27,6 +27,6 @@ invariant_of-self-2 c =
     let more : c.push.new.self.items ≡ c.self.inside.limits.items ++ length c.self.inside.steps.items ∷ [] = c.in_ok-push.ensures.items ∙ ap (λ (m : ℕ). c.self.inside.limits.items ++ m ∷ []) len in
     let leveled : IsLeveled (c.self.inside.steps.items ++ s ∷ []) c.push.new.self.items = rw more (leveled_decision c.self.inside.steps.items c.self.inside.limits.items s c.self.invariant.0.leveled refl) in (
       trail_next c.self.invariant.0 s c.push.new.self.items c.place.result c.variable.result c.len-2.result c.push-2.new.self.items
-          c.place.ensures c.variable.ensures.value (omega arith) after within not_true not_false leveled,
+          c.place.ensures.value c.variable.ensures.value (omega arith) after within not_true not_false leveled,
       omega arith,
     )

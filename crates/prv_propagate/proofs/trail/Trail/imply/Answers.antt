@@ -22,7 +22,7 @@ invariant_of-self c =
     let not_false : is_false (trues c.self.inside.steps.items) c.args.lit ≡ false = subst (λ (t : Trailing). is_false (trues t.steps) c.args.lit ≡ false) (sym c.self.view_is) c.requires.not_false in
     let after : c.push.new.self.items ≡ c.self.inside.steps.items ++ s ∷ [] = rw c.unwrap.ensures at c.push.ensures.items in (
       trail_next c.self.invariant.0 s c.self.inside.limits.items c.place.result c.variable.result c.len.result c.push.new.self.items
-          c.place.ensures c.variable.ensures.value (omega arith) after within not_true not_false
+          c.place.ensures.value c.variable.ensures.value (omega arith) after within not_true not_false
           (leveled_more c.self.inside.steps.items c.self.inside.limits.items s c.self.invariant.0.leveled (λ e. omega (arith, c.requires.reason, e))),
       omega arith,
     )

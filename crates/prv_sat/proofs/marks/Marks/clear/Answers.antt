@@ -10,7 +10,7 @@ loop-lit-preserved c =
     let rest = c.pop.new.self.items in
     let m : AreMarks c.loop-lit.self-inside.vars c.loop-lit.self-inside.table.items (rest ++ c.in-Some.lit ∷ []) = rw c.in-Some.ensures.items at c.loop-lit.invariant.marks in
     record {
-      marks = rw c.place.ensures (marks_pop rest c.in-Some.lit m);
+      marks = rw c.place.ensures.value (marks_pop rest c.in-Some.lit m);
       vars = c.loop-lit.invariant.vars;
     }
 

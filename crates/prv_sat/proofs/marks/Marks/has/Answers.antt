@@ -6,4 +6,4 @@ pub returns : goal.returns
 returns c =
     rw (← c.self.view_is)
     (c.is_at.ensures
-    ∙ rw (c.as_slice.ensures.value, c.place.ensures) (sym (marked_has c.self.invariant c.args.lit)))
+    ∙ rw (c.as_slice.ensures.value, c.place.ensures.value) (sym (marked_has c.self.invariant c.args.lit)))

@@ -7,4 +7,4 @@ pub returns : goal.returns
 returns c =
     rw (← c.self.view_is)
     (c.is_at.ensures
-    ∙ rw (c.as_slice.ensures.value, c.negated_place.ensures) (sym (marked_has c.self.invariant (negate c.args.lit))))
+    ∙ rw (c.as_slice.ensures.value, c.negated_place.ensures.value) (sym (marked_has c.self.invariant (negate c.args.lit))))

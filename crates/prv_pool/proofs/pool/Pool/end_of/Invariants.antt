@@ -1,8 +1,0 @@
-use Rattle.std.proofs.Common.{ℕ, ◌<◌, ◌≤◌, length, get_or}
-use Rattle.prv_pool.proofs.pool.Pool.end_of.Given as goal
-
-abbrev pub invariant-loop-n : goal.invariant-loop-n
-invariant-loop-n l = record {
-  within : l.end ≤ length l.self.terms;
-  above : (k : ℕ) → k < l.n-index → get_or l.nodes k 0 < l.end;
-}

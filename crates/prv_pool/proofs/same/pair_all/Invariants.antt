@@ -1,5 +1,0 @@
-use Rattle.prv_pool.proofs.PairLemmas.{AreSoFar}
-use Rattle.prv_pool.proofs.same.pair_all.Given as goal
-
-abbrev pub invariant-loop-i : goal.invariant-loop-i
-invariant-loop-i l = AreSoFar l.fn.partners l.partners l.nodes l.others l.i

@@ -1,0 +1,4 @@
+pub mod ValueLemmas
+pub mod NumberLemmas
+pub mod CopyLemmas
+pub mod PairLemmas
