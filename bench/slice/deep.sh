@@ -4,8 +4,8 @@
 #
 #   bench/slice/deep.sh [ROUNDS]
 #
-# `./build` has to have built the program. Two variables become chains of 4,500 subtractions that differ at their
-# innermost operand alone, and 1,000 statements then put out `x ^ y`, or `x - y` in the second program. It prints the
+# `./build` has to have built the program. Two variables become chains of 4,488 subtractions that differ at their
+# innermost operand alone, and `x ^ y` is then put out 1,008 times, or `x - y` in the second program. It prints the
 # least time of ROUNDS rounds (7 if not given) of each, in milliseconds with the start, and their ratio: near 1 where an
 # operator that stands in the table is found there, and far above it where its operands are compared as trees before.
 set -eu
@@ -21,9 +21,10 @@ python3 - "$program" "$work" "${1:-7}" <<'P'
 import subprocess, sys, time
 program, work, rounds = sys.argv[1], sys.argv[2], int(sys.argv[3])
 def write(name, op):
-    step = 'x = x - c; y = y - c; ' * 145
+    chains = 'x = x - c; y = y - c; ' * 264
+    outs = f'out(x {op} y); ' * 72
     with open(f'{work}/{name}.mc', 'w') as file:
-        file.write('int main(int a, int b, int c) { int x = a; int y = b; int n = 0; while (n < 31) { n = n + 1; ' + step + '} ' + f'out(x {op} y); ' * 1000 + 'return 0; }')
+        file.write('int main(int a, int b, int c) { int x = a; int y = b; int n = 0; while (n < 17) { n = n + 1; ' + chains + '} ' + 'while (n < 31) { n = n + 1; ' + outs + '} return 0; }')
 write('exchanged', '^')
 write('ordered', '-')
 least = {'exchanged': 1e9, 'ordered': 1e9}
